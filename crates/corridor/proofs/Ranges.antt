@@ -1,0 +1,67 @@
+-- What the tests of number 2 to 7 say when they pass. Assumes nothing.
+use Prim.Native.Nat.{ℕ, _≤_}
+use mathlib.Core.Path.{_≡_, refl}
+use mathlib.Core.Bool.{Bool, true, false, _&&_, false≢true}
+use mathlib.Core.List.{List}
+use borrow.Author.Tests.{leb-true, eqb-true}
+use lib.Dec.{leb}
+use lib.ListN.{length}
+use Rattle.whole.specs.Share.{ONE}
+use Rattle.whole.specs.Search.{within}
+use Rattle.corridor.specs.declared.Row.{Row}
+use Rattle.corridor.specs.Layout.{cells, stateLength, demandLength}
+use Rattle.corridor.specs.Acceptance.{tableLengthFits, stateLengthsFit, rowLengthsFit, rowInRange, withRamp}
+
+pub both-hold : (a b : Bool) → (a && b) ≡ true → (a ≡ true) × (b ≡ true)
+both-hold true b e = (refl, e)
+both-hold false b e = absurd (false≢true e)
+
+pub record Between (low high x : ℕ) : Type 0 where
+  pub least : low ≤ x
+  pub most : x ≤ high
+
+between : (low high x : ℕ) → within low high x ≡ true → Between low high x
+between low high x e = let both = both-hold (leb low x) (leb x high) e in record { least = leb-true low x (both .0); most = leb-true x high (both .1) }
+
+-- a row in range, column by column
+pub record InRange (r : Row) : Type 0 where
+  pub v : Between 1 ONE (r .v)
+  pub w : Between 1 ONE (r .w)
+  pub capacity : Between 1 1_000_000 (r .capacity)
+  pub jam : Between 1 4_000_000 (r .jam)
+  pub on : Between 0 65_535 (r .on)
+  pub x : Between (withRamp (r .on) 1) (withRamp (r .on) 65_535) (r .x)
+  pub c : Between (withRamp (r .on) 1) (withRamp (r .on) 1_000_000) (r .c)
+  pub off : Between 0 65_535 (r .off)
+  pub b : Between 0 (withRamp (r .off) 65_535) (r .b)
+
+pub in-range : (r : Row) → rowInRange r ≡ true → InRange r
+unfolding rowInRange
+in-range r e =
+    let b = both-hold _ _ e in
+    let off = both-hold _ _ (b .0) in
+    let c = both-hold _ _ (off .0) in
+    let x = both-hold _ _ (c .0) in
+    let on = both-hold _ _ (x .0) in
+    let jam = both-hold _ _ (on .0) in
+    let capacity = both-hold _ _ (jam .0) in
+    let w = both-hold _ _ (capacity .0) in
+    record {
+      v = between _ _ _ (w .0);
+      w = between _ _ _ (w .1);
+      capacity = between _ _ _ (capacity .1);
+      jam = between _ _ _ (jam .1);
+      on = between _ _ _ (on .1);
+      x = between _ _ _ (x .1);
+      c = between _ _ _ (c .1);
+      off = between _ _ _ (off .1);
+      b = between _ _ _ (b .1);
+    }
+
+-- the lengths under a table whose row of lists fits
+pub state-length : (table state : List ℕ) → stateLengthsFit table state ≡ true → length state ≡ stateLength (cells table)
+state-length table state fit = eqb-true _ _ (both-hold (tableLengthFits table) _ fit .1)
+
+pub row-lengths : (table state demand : List ℕ) → rowLengthsFit table state demand ≡ true → (length state ≡ stateLength (cells table)) × (length demand ≡ demandLength (cells table))
+row-lengths table state demand fit =
+    let both = both-hold (stateLengthsFit table state) _ fit in (state-length table state (both .0), eqb-true _ _ (both .1))

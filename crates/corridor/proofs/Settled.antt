@@ -1,0 +1,28 @@
+-- The promise of each public function settles its result: two answers that it allows for the same lists are equal.
+-- Assumes nothing.
+use Rattle.whole.proofs.Settles.{Settles, settled}
+use Rattle.corridor.proofs.number.Kinds as number-kinds
+use Rattle.corridor.proofs.number.Reads as number
+use Rattle.corridor.proofs.place.Kinds as place-kinds
+use Rattle.corridor.proofs.place.Reads as place
+use Rattle.corridor.proofs.accept_table.Kinds as accept-table-kinds
+use Rattle.corridor.proofs.accept_table.Reads as accept-table
+use Rattle.corridor.proofs.accept_state.Kinds as accept-state-kinds
+use Rattle.corridor.proofs.accept_state.Reads as accept-state
+use Rattle.corridor.proofs.accept_row.Kinds as accept-row-kinds
+use Rattle.corridor.proofs.accept_row.Reads as accept-row
+
+pub number-settles : Settles _ number-kinds.ps number-kinds.r number.Learnt
+number-settles κs a y z e f = settled
+
+pub place-settles : Settles _ place-kinds.ps place-kinds.r place.Learnt
+place-settles κs a y z e f = settled
+
+pub accept-table-settles : Settles _ accept-table-kinds.ps accept-table-kinds.r accept-table.Learnt
+accept-table-settles κs a y z e f = settled
+
+pub accept-state-settles : Settles _ accept-state-kinds.ps accept-state-kinds.r accept-state.Learnt
+accept-state-settles κs a y z e f = settled
+
+pub accept-row-settles : Settles _ accept-row-kinds.ps accept-row-kinds.r accept-row.Learnt
+accept-row-settles κs a y z e f = settled

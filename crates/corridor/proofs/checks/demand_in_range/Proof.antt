@@ -1,0 +1,57 @@
+-- `corridor::checks::demand_in_range` meets its contract, by the law of the least index that fails. Assumes nothing.
+use Prim.Native.Nat.{_-_, _+_}
+use mathlib.Core.Path.{ap}
+use borrow.Author.Needs.{needs}
+use Rattle.whole.proofs.Search.{Searching, begins, goes-on, found, not-found}
+use Rattle.corridor.specs.Acceptance.{demandInRange}
+use Rattle.corridor.proofs.checks.demand_in_range.Statement.{statement}
+use Rattle.corridor.proofs.checks.demand_in_range.Tie as tie
+
+abbrev Inv-loop : tie.InvT-loop
+Inv-loop table demand n i₀ i = Searching (demandInRange table demand .places) (demandInRange table demand .test) n i
+
+abbrev μ-loop : tie.MeasureT-loop
+μ-loop table demand n i₀ i = n - i
+
+cells-requires : tie.Need-cells-requires Inv-loop μ-loop
+cells-requires c κs = search needs
+
+add-n : tie.Need-add-n Inv-loop μ-loop
+add-n c = search needs
+
+loop-holds : tie.Need-loop-holds Inv-loop μ-loop
+loop-holds c = begins _ (ap (λ m. m + 1) (c .cells .ensures))
+
+demand-fits-at-requires : tie.Need-demand-fits-at-requires Inv-loop μ-loop
+demand-fits-at-requires c κs = search needs
+
+returns : tie.Need-returns Inv-loop μ-loop
+returns c = found (c .before .before .before .loop .inv) (search needs) (c .before .demand-fits-at .ensures) (c .if1 .taken)
+
+add-i : tie.Need-add-i Inv-loop μ-loop
+add-i c = search needs
+
+loop-less : tie.Need-loop-less Inv-loop μ-loop
+loop-less c = search needs
+
+loop-again : tie.Need-loop-again Inv-loop μ-loop
+loop-again c = goes-on (c .before .before .before .loop .inv) (search needs) (c .before .demand-fits-at .ensures) (c .if1 .left)
+
+returns-2 : tie.Need-returns-2 Inv-loop μ-loop
+returns-2 c = not-found (c .before .loop .inv) (search needs)
+
+pub demand-in-range-spec : {M : Type 1} → statement M
+demand-in-range-spec =
+    tie.close
+    (tie.spec
+    Inv-loop
+    μ-loop
+    cells-requires
+    add-n
+    loop-holds
+    demand-fits-at-requires
+    returns
+    add-i
+    loop-less
+    loop-again
+    returns-2)

@@ -1,0 +1,18 @@
+-- `corridor::layout::ramp_at` meets its contract. Assumes nothing.
+use mathlib.Core.Path.{ap}
+use borrow.Author.Tests.{eq-eqb, ne-eqb}
+use borrow.Author.Needs.{needs}
+use Rattle.corridor.proofs.layout.ramp_at.Statement.{statement}
+use Rattle.corridor.proofs.layout.ramp_at.Tie as tie
+
+row-at-requires : tie.Need-row-at-requires
+row-at-requires c κs = search needs
+
+returns : tie.Need-returns
+returns c = simp (eq-eqb _ _ (c .if1 .taken)) (ap (λ r. r .on) (c .before .row-at .ensures))
+
+returns-2 : tie.Need-returns-2
+returns-2 c = simp (ne-eqb _ _ (c .if1 .left)) (ap (λ r. r .off) (c .before .row-at .ensures))
+
+pub ramp-at-spec : {M : Type 1} → statement M
+ramp-at-spec = tie.close (tie.spec row-at-requires returns returns-2)

@@ -1,0 +1,128 @@
+-- Document 01, "Units and the cell row" and "Refusal numbers" 1 to 7: what is asked of a table, a state and a demand row.
+use Prim.Native.Nat.{ℕ, zero, suc, _+_, _*_, _/_, _%_}
+use mathlib.Core.Bool.{Bool, true, false, not, _&&_, _||_}
+use mathlib.Core.List.{List, [], _∷_, _++_}
+use lib.Dec.{leb, eqb}
+use lib.ListN.{length}
+use Rattle.whole.specs.Share.{ONE}
+use Rattle.whole.specs.Search.{pick, within, every}
+use Rattle.whole.specs.Sums.{atPosition}
+use Rattle.corridor.specs.declared.Row.{Row}
+use Rattle.corridor.specs.declared.Refusal.the-variants.{Length, TableNumber, RoomShares, RampAgain, StateNumber, Demand, QueueOver}
+use Rattle.corridor.specs.Layout.{cells, rowAt, rampAt, stateLength, entryQueue, countAt, queueAt, demandLength, entryDemand, onDemandAt, offDemandAt}
+use Rattle.corridor.specs.Checks.{Check}
+
+-- 1: a table has 1 to 512 whole rows, and the other lengths follow from N
+abbrev pub tableLengthFits : List ℕ → Bool
+tableLengthFits table = eqb (length table % 9) 0 && within 1 512 (cells table)
+
+abbrev pub stateLengthsFit : List ℕ → List ℕ → Bool
+stateLengthsFit table state = tableLengthFits table && eqb (length state) (stateLength (cells table))
+
+abbrev pub rowLengthsFit : List ℕ → List ℕ → List ℕ → Bool
+rowLengthsFit table state demand = stateLengthsFit table state && eqb (length demand) (demandLength (cells table))
+
+-- a bound that holds where there is a ramp; with ramp number 0 it is 0
+abbrev pub withRamp : ℕ → ℕ → ℕ
+withRamp ramp bound = pick (eqb ramp 0) 0 bound
+
+-- 2: each number of a row is in its column's range
+unfoldable pub rowInRange : Row → Bool
+rowInRange r =
+    within 1 ONE (r .v)
+    && within 1 ONE (r .w)
+    && within 1 1_000_000 (r .capacity)
+    && within 1 4_000_000 (r .jam)
+    && within 0 65_535 (r .on)
+    && within (withRamp (r .on) 1) (withRamp (r .on) 65_535) (r .x)
+    && within (withRamp (r .on) 1) (withRamp (r .on) 1_000_000) (r .c)
+    && within 0 65_535 (r .off)
+    && within 0 (withRamp (r .off) 65_535) (r .b)
+
+-- 3: w + x is at most ONE
+abbrev pub roomShared : Row → Bool
+roomShared r = leb (r .w + r .x) ONE
+
+-- 4: a ramp number stands at no earlier position along the road; 0 is no ramp
+abbrev pub rampIsNew : List ℕ → ℕ → Bool
+rampIsNew table k = eqb (rampAt table k) 0 || every k (λ j. not (eqb (rampAt table j) (rampAt table k)))
+
+-- 5: a queue is at most 1,000,000,000, and 0 where there is no on-ramp; a count is at most J
+abbrev pub queueLimit : ℕ
+queueLimit = 1_000_000_000
+
+abbrev pub stateFits : Row → ℕ → ℕ → Bool
+stateFits r n q = leb n (r .jam) && leb q (withRamp (r .on) queueLimit)
+
+-- 6: a demand is at most 1,000,000; d is 0 without an on-ramp, o is 0 unless an off-ramp has b = 0
+abbrev pub demandLimit : ℕ
+demandLimit = 1_000_000
+
+abbrev pub givenOff : Row → ℕ
+givenOff r = pick (eqb (r .b) 0) (withRamp (r .off) demandLimit) 0
+
+abbrev pub demandFits : Row → ℕ → ℕ → Bool
+demandFits r d o = leb d (withRamp (r .on) demandLimit) && leb o (givenOff r)
+
+-- 7: queue plus demand is at most 1,000,000,000
+abbrev pub queueHolds : ℕ → ℕ → Bool
+queueHolds queue demand = leb (queue + demand) queueLimit
+
+-- The checks, by number. A place is a cell, counted from 1, or 0 for the entry.
+
+abbrev pub lengths : Bool → Check
+lengths fit = record { places = 1; test = λ _. fit; refusal = λ _. Length }
+
+abbrev pub rowsInRange : List ℕ → Check
+rowsInRange table = record { places = cells table; test = λ i. rowInRange (rowAt table i); refusal = λ i. TableNumber (i + 1) }
+
+abbrev pub roomsShared : List ℕ → Check
+roomsShared table = record { places = cells table; test = λ i. roomShared (rowAt table i); refusal = λ i. RoomShares (i + 1) }
+
+abbrev pub rampsOnce : List ℕ → Check
+rampsOnce table = record { places = 2 * cells table; test = rampIsNew table; refusal = λ k. RampAgain (k / 2 + 1) }
+
+abbrev pub stateInRange : List ℕ → List ℕ → Check
+stateInRange table state =
+    record {
+      places = cells table + 1;
+      test = atPosition (leb (entryQueue state) queueLimit) (λ i. stateFits (rowAt table i) (countAt state i) (queueAt (cells table) state i));
+      refusal = StateNumber;
+    }
+
+abbrev pub demandInRange : List ℕ → List ℕ → Check
+demandInRange table demand =
+    record {
+      places = cells table + 1;
+      test = atPosition (leb (entryDemand demand) demandLimit) (λ i. demandFits (rowAt table i) (onDemandAt demand i) (offDemandAt (cells table) demand i));
+      refusal = Demand;
+    }
+
+abbrev pub queuesHold : List ℕ → List ℕ → List ℕ → Check
+queuesHold table state demand =
+    record {
+      places = cells table + 1;
+      test = atPosition (queueHolds (entryQueue state) (entryDemand demand)) (λ i. queueHolds (queueAt (cells table) state i) (onDemandAt demand i));
+      refusal = QueueOver;
+    }
+
+-- What is asked of a table (1 to 4), of a state under it (1 to 5), and of a demand row under both (1 to 7)
+
+abbrev pub tableNumbers : List ℕ → List Check
+tableNumbers table = rowsInRange table ∷ roomsShared table ∷ rampsOnce table ∷ []
+
+abbrev pub stateNumbers : List ℕ → List ℕ → List Check
+stateNumbers table state = tableNumbers table ++ (stateInRange table state ∷ [])
+
+abbrev pub demandNumbers : List ℕ → List ℕ → List ℕ → List Check
+demandNumbers table state demand = demandInRange table demand ∷ queuesHold table state demand ∷ []
+
+abbrev pub tableChecks : List ℕ → List Check
+tableChecks table = lengths (tableLengthFits table) ∷ tableNumbers table
+
+abbrev pub stateChecks : List ℕ → List ℕ → List Check
+stateChecks table state = lengths (stateLengthsFit table state) ∷ stateNumbers table state
+
+abbrev pub rowChecks : List ℕ → List ℕ → List ℕ → List Check
+rowChecks table state demand =
+    lengths (rowLengthsFit table state demand) ∷ stateNumbers table state ++ demandNumbers table state demand

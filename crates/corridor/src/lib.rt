@@ -1,0 +1,197 @@
+// The corridor's lists: the row as a struct, where each number stands in a table, a state and a demand row, and what
+// is refused of them, by document 01's numbers 1 to 7.
+ghost use mathlib.Core.Path.{_≡_};
+ghost use lib.ListN.{length};
+ghost use Rattle.corridor.specs.Layout.{cells, stateLength, demandLength};
+ghost use Rattle.corridor.specs.Checks.{answer};
+ghost use Rattle.corridor.specs.Acceptance.{tableLengthFits, stateLengthsFit, rowLengthsFit, tableNumbers, stateNumbers, demandNumbers, tableChecks, stateChecks, rowChecks};
+ghost use Rattle.corridor.specs.Refusals.{numberOf, placeOf};
+
+mod checks;
+mod layout;
+
+use layout::cells;
+
+// One row of a cell table, in document 01's order of columns.
+pub struct Row {
+    pub v: u32,
+    pub w: u32,
+    pub capacity: u32,
+    pub jam: u32,
+    pub on: u32,
+    pub x: u32,
+    pub c: u32,
+    pub off: u32,
+    pub b: u32,
+}
+
+// A refusal for each number of document 01, with its place.
+pub enum Refusal {
+    Length,
+    TableNumber(usize),
+    RoomShares(usize),
+    RampAgain(usize),
+    StateNumber(usize),
+    Demand(usize),
+    QueueOver(usize),
+    Pieces(usize),
+    Sample(usize),
+    Fit,
+    RowValue(usize),
+    Record(usize),
+}
+
+pub enum Answer {
+    Accepted,
+    Refused(Refusal),
+}
+
+// Document 01's number of a refusal.
+pub fn number(refusal: Refusal) -> u32
+    ensures { λ r. ⌜ r ≡ numberOf refusal ⌝ }
+{
+    match refusal {
+        Refusal::Length => 1,
+        Refusal::TableNumber(_) => 2,
+        Refusal::RoomShares(_) => 3,
+        Refusal::RampAgain(_) => 4,
+        Refusal::StateNumber(_) => 5,
+        Refusal::Demand(_) => 6,
+        Refusal::QueueOver(_) => 7,
+        Refusal::Pieces(_) => 8,
+        Refusal::Sample(_) => 9,
+        Refusal::Fit => 10,
+        Refusal::RowValue(_) => 11,
+        Refusal::Record(_) => 12,
+    }
+}
+
+// The place of a refusal: a cell, a sample, a value or a record, counted from 1, or 0.
+pub fn place(refusal: Refusal) -> usize
+    ensures { λ r. ⌜ r ≡ placeOf refusal ⌝ }
+{
+    match refusal {
+        Refusal::Length => 0,
+        Refusal::TableNumber(cell) => cell,
+        Refusal::RoomShares(cell) => cell,
+        Refusal::RampAgain(cell) => cell,
+        Refusal::StateNumber(cell) => cell,
+        Refusal::Demand(cell) => cell,
+        Refusal::QueueOver(cell) => cell,
+        Refusal::Pieces(cell) => cell,
+        Refusal::Sample(sample) => sample,
+        Refusal::Fit => 0,
+        Refusal::RowValue(value) => value,
+        Refusal::Record(record) => record,
+    }
+}
+
+// Number 1 of a table.
+fn table_length_fits(table: &[u32]) -> bool
+    ensures { λ r. ⌜ r ≡ tableLengthFits (now (table .entry)) ⌝ }
+{
+    let n = cells(table);
+    (table.len() % 9 == 0) & ((1 <= n) & (n <= 512))
+}
+
+// Number 1 of a table and a state.
+fn state_lengths_fit(table: &[u32], state: &[u32]) -> bool
+    ensures { λ r. ⌜ r ≡ stateLengthsFit (now (table .entry)) (now (state .entry)) ⌝ }
+{
+    table_length_fits(table) & (state.len() == 2 * cells(table) + 1)
+}
+
+// Number 1 of a table, a state and a demand row.
+fn row_lengths_fit(table: &[u32], state: &[u32], demand: &[u32]) -> bool
+    ensures { λ r. ⌜ r ≡ rowLengthsFit (now (table .entry)) (now (state .entry)) (now (demand .entry)) ⌝ }
+{
+    state_lengths_fit(table, state) & (demand.len() == 2 * cells(table) + 1)
+}
+
+// Numbers 2 to 4.
+fn table_numbers(table: &[u32]) -> Answer
+    ensures { λ r. ⌜ r ≡ answer (tableNumbers (now (table .entry))) ⌝ }
+{
+    let n = cells(table);
+    let row = checks::rows_in_range(table);
+    if row < n {
+        return Answer::Refused(Refusal::TableNumber(row + 1));
+    }
+    let room = checks::rooms_shared(table);
+    if room < n {
+        return Answer::Refused(Refusal::RoomShares(room + 1));
+    }
+    let ramp = checks::ramps_once(table);
+    if ramp < 2 * n {
+        return Answer::Refused(Refusal::RampAgain(ramp / 2 + 1));
+    }
+    Answer::Accepted
+}
+
+// Numbers 2 to 5.
+fn state_numbers(table: &[u32], state: &[u32]) -> Answer
+    requires { ⌜ length (now state) ≡ stateLength (cells (now table)) ⌝ }
+    ensures { λ r. ⌜ r ≡ answer (stateNumbers (now (table .entry)) (now (state .entry))) ⌝ }
+{
+    let found = table_numbers(table);
+    if let Answer::Refused(refusal) = found {
+        return Answer::Refused(refusal);
+    }
+    let at = checks::state_in_range(table, state);
+    if at <= cells(table) {
+        return Answer::Refused(Refusal::StateNumber(at));
+    }
+    Answer::Accepted
+}
+
+// Numbers 6 and 7.
+fn demand_numbers(table: &[u32], state: &[u32], demand: &[u32]) -> Answer
+    requires { ⌜ length (now state) ≡ stateLength (cells (now table)) ⌝ }
+    requires { ⌜ length (now demand) ≡ demandLength (cells (now table)) ⌝ }
+    ensures { λ r. ⌜ r ≡ answer (demandNumbers (now (table .entry)) (now (state .entry)) (now (demand .entry))) ⌝ }
+{
+    let n = cells(table);
+    let at = checks::demand_in_range(table, demand);
+    if at <= n {
+        return Answer::Refused(Refusal::Demand(at));
+    }
+    let over = checks::queues_hold(table, state, demand);
+    if over <= n {
+        return Answer::Refused(Refusal::QueueOver(over));
+    }
+    Answer::Accepted
+}
+
+// Whether a table is accepted: numbers 1 to 4.
+pub fn accept_table(table: &[u32]) -> Answer
+    ensures { λ r. ⌜ r ≡ answer (tableChecks (now (table .entry))) ⌝ }
+{
+    if !table_length_fits(table) {
+        return Answer::Refused(Refusal::Length);
+    }
+    table_numbers(table)
+}
+
+// Whether a state is accepted under a table: numbers 1 to 5.
+pub fn accept_state(table: &[u32], state: &[u32]) -> Answer
+    ensures { λ r. ⌜ r ≡ answer (stateChecks (now (table .entry)) (now (state .entry))) ⌝ }
+{
+    if !state_lengths_fit(table, state) {
+        return Answer::Refused(Refusal::Length);
+    }
+    state_numbers(table, state)
+}
+
+// Whether a demand row is accepted under a table and a state: numbers 1 to 7.
+pub fn accept_row(table: &[u32], state: &[u32], demand: &[u32]) -> Answer
+    ensures { λ r. ⌜ r ≡ answer (rowChecks (now (table .entry)) (now (state .entry)) (now (demand .entry))) ⌝ }
+{
+    if !row_lengths_fit(table, state, demand) {
+        return Answer::Refused(Refusal::Length);
+    }
+    let found = state_numbers(table, state);
+    if let Answer::Refused(refusal) = found {
+        return Answer::Refused(refusal);
+    }
+    demand_numbers(table, state, demand)
+}

@@ -1,0 +1,17 @@
+-- What it is for a promise to settle a function's result: two results that it allows, for the same arguments, are equal.
+-- Assumes nothing.
+use Prim.Native.Nat.{ℕ}
+use mathlib.Core.Path.{_≡_, sym, _∙_}
+use mathlib.Core.List.{List}
+use contract.Lifetimes.{Lfts}
+use denote.Triple.Clauses.{AtExit}
+use borrow.Fn.Kinds.{PK, RK, Out, Dens, endedOf, resT}
+
+-- a promise, as a caller learns it, of a function that returns r
+abbrev pub Settles : (n : ℕ) (ps : List (PK n)) (r : RK n) → Out n ps r → Type 0
+Settles n ps r Promise =
+    (κs : Lfts n) (a : Dens κs ps) (y z : resT r κs .Denot) (e f : AtExit (endedOf n ps r) κs) → Promise κs a y e → Promise κs a z f → y ≡ z
+
+-- what equals one thing is one thing
+pub settled {ℓ} : {A : Type ℓ} {x y z : A} → y ≡ x → z ≡ x → y ≡ z
+settled p q = p ∙ sym q

@@ -1,0 +1,4 @@
+pub mod Share
+pub mod Lists
+pub mod Sums
+pub mod Search
