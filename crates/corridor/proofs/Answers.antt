@@ -1,11 +1,13 @@
 -- How an answer goes from check to check. Assumes nothing.
 use Prim.Native.Nat.{ℕ, _≤_, _<_}
 use mathlib.Core.Path.{_≡_, refl, sym, ap, _∙_}
-use mathlib.Core.Bool.{Bool, true, false, not}
+use mathlib.Core.Bool.{Bool, true, false, not, _&&_, and-true, and-false}
 use mathlib.Core.List.{List, [], _∷_, _++_}
-use borrow.Author.Tests.{lt-ltb, le-ltb, not-true, not-false}
+use native.Mathlib.Omega.{arith}
+use borrow.Author.Tests.{lt-ltb, le-ltb, ltb-false, not-true, not-false}
 use lib.Dec.{ltb}
 use Rattle.whole.specs.Search.{pick}
+use Rattle.whole.proofs.Search.{Passes, all-pass, none-fails}
 use Rattle.corridor.specs.declared.Refusal.{Refusal}
 use Rattle.corridor.specs.declared.Refusal.the-variants.{Length}
 use Rattle.corridor.specs.declared.Answer.{Answer}
@@ -32,6 +34,14 @@ pub lengths-fit : {a later : Answer} {fit r : Bool} → r ≡ fit → not r ≡ 
 unfolding orLater
 lengths-fit e h next = rw (sym e ∙ not-false _ h) next
 
+-- one more length to fit: where it does, the others decide, and where it does not, number 1 is given
+pub length-fits-too : (checks : List Check) (others : Bool) {more : Bool} → more ≡ true → answer (lengths (others && more) ∷ checks) ≡ answer (lengths others ∷ checks)
+length-fits-too checks others e =
+    ap (λ fit. answer (lengths fit ∷ checks)) (ap (λ b. others && b) e ∙ and-true others)
+
+pub length-fails : (checks : List Check) (others : Bool) {more : Bool} → more ≡ false → Refused Length ≡ answer (lengths (others && more) ∷ checks)
+length-fails checks others e = lengths-fail _ {r = false} (sym (ap (λ b. others && b) e ∙ and-false others)) refl
+
 -- the answer, or the next one where there is no refusal
 abbrev orElse : Answer → Answer → Answer
 orElse Accepted next = next
@@ -52,3 +62,36 @@ refused-stays first later e = rw (in-turn first later, ← e)
 
 pub accepted-goes-on : (first later : List Check) {a : Answer} → Accepted ≡ answer first → a ≡ answer later → a ≡ answer (first ++ later)
 accepted-goes-on first later e next = rw (in-turn first later, ← e) next
+
+pub refused-is-not-accepted : (refusal : Refusal) → Refused refusal ≡ Accepted → ⊥
+refused-is-not-accepted refusal e = let z : _≡_ {A = ℕ} 0 1 = cc in omega arith
+
+none-fails-reaches : (check : Check) → Passes (check .places) (check .test) → check .places ≤ least check
+none-fails-reaches check all = omega (arith, none-fails (check .places) (check .test) all)
+
+-- What Accepted says of each check, and what says Accepted.
+
+pub accepted-passes : (check : Check) (later : Answer) → orLater check later ≡ Accepted → Passes (check .places) (check .test) × (later ≡ Accepted)
+unfolding orLater
+accepted-passes check later e = by (ltb (least check) (check .places)) refl e
+  where
+    by : (fails : Bool) → ltb (least check) (check .places) ≡ fails → pick fails (Refused (check .refusal (least check))) later ≡ Accepted → Passes (check .places) (check .test) × (later ≡ Accepted)
+    by true h e = absurd (refused-is-not-accepted (check .refusal (least check)) e)
+    by false h e = (all-pass (check .places) (check .test) refl (ltb-false (least check) (check .places) h), e)
+
+pub passes-accepted : (check : Check) (later : Answer) → Passes (check .places) (check .test) → later ≡ Accepted → orLater check later ≡ Accepted
+passes-accepted check later all e = sym (passes check refl (none-fails-reaches check all) (sym e))
+
+pub accepted-both : (first later : List Check) → answer (first ++ later) ≡ Accepted → (answer first ≡ Accepted) × (answer later ≡ Accepted)
+accepted-both first later e = by (answer first) (sym (in-turn first later) ∙ e)
+  where
+    by : (a : Answer) → orElse a (answer later) ≡ Accepted → (a ≡ Accepted) × (answer later ≡ Accepted)
+    by Accepted e = (refl, e)
+    by (Refused refusal) e = absurd (refused-is-not-accepted refusal e)
+
+pub both-accepted : (first later : List Check) → answer first ≡ Accepted → answer later ≡ Accepted → answer (first ++ later) ≡ Accepted
+both-accepted first later e f = sym (accepted-goes-on first later (sym e) (sym f))
+
+-- lengths that fit leave the answer to the checks after them
+pub lengths-passed : (checks : List Check) {fit : Bool} → fit ≡ true → answer (lengths fit ∷ checks) ≡ answer checks
+lengths-passed checks e = sym (lengths-fit {r = true} (sym e) refl refl)

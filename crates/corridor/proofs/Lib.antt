@@ -1,4 +1,5 @@
 pub mod Answers
 pub mod Ranges
 pub mod Ramps
+pub mod Accepted
 pub mod Settled

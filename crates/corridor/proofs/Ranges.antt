@@ -1,13 +1,14 @@
 -- What the tests of number 2 to 7 say when they pass. Assumes nothing.
-use Prim.Native.Nat.{ℕ, _≤_}
+use Prim.Native.Nat.{ℕ, _≤_, zero-le}
 use mathlib.Core.Path.{_≡_, refl}
 use mathlib.Core.Bool.{Bool, true, false, _&&_, false≢true}
 use mathlib.Core.List.{List}
 use borrow.Author.Tests.{leb-true, eqb-true}
-use lib.Dec.{leb}
+use native.Mathlib.Omega.{arith}
+use lib.Dec.{leb, eqb}
 use lib.ListN.{length}
 use Rattle.whole.specs.Share.{ONE}
-use Rattle.whole.specs.Search.{within}
+use Rattle.whole.specs.Search.{pick, within}
 use Rattle.corridor.specs.declared.Row.{Row}
 use Rattle.corridor.specs.Layout.{cells, stateLength, demandLength}
 use Rattle.corridor.specs.Acceptance.{tableLengthFits, stateLengthsFit, rowLengthsFit, rowInRange, withRamp}
@@ -65,3 +66,11 @@ state-length table state fit = eqb-true _ _ (both-hold (tableLengthFits table) _
 pub row-lengths : (table state demand : List ℕ) → rowLengthsFit table state demand ≡ true → (length state ≡ stateLength (cells table)) × (length demand ≡ demandLength (cells table))
 row-lengths table state demand fit =
     let both = both-hold (stateLengthsFit table state) _ fit in (state-length table state (both .0), eqb-true _ _ (both .1))
+
+-- a bound that holds where there is a ramp is at most that bound
+pub with-ramp-at-most : (ramp bound : ℕ) → withRamp ramp bound ≤ bound
+with-ramp-at-most ramp bound = by (eqb ramp 0)
+  where
+    by : (none : Bool) → pick none 0 bound ≤ bound
+    by true = zero-le
+    by false = omega arith

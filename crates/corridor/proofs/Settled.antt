@@ -11,6 +11,8 @@ use Rattle.corridor.proofs.accept_state.Kinds as accept-state-kinds
 use Rattle.corridor.proofs.accept_state.Reads as accept-state
 use Rattle.corridor.proofs.accept_row.Kinds as accept-row-kinds
 use Rattle.corridor.proofs.accept_row.Reads as accept-row
+use Rattle.corridor.proofs.accept_demand.Kinds as accept-demand-kinds
+use Rattle.corridor.proofs.accept_demand.Reads as accept-demand
 
 pub number-settles : Settles _ number-kinds.ps number-kinds.r number.Learnt
 number-settles κs a y z e f = settled
@@ -26,3 +28,6 @@ accept-state-settles κs a y z e f = settled
 
 pub accept-row-settles : Settles _ accept-row-kinds.ps accept-row-kinds.r accept-row.Learnt
 accept-row-settles κs a y z e f = settled
+
+pub accept-demand-settles : Settles _ accept-demand-kinds.ps accept-demand-kinds.r accept-demand.Learnt
+accept-demand-settles κs a y z e f = settled

@@ -126,3 +126,7 @@ stateChecks table state = lengths (stateLengthsFit table state) ∷ stateNumbers
 abbrev pub rowChecks : List ℕ → List ℕ → List ℕ → List Check
 rowChecks table state demand =
     lengths (rowLengthsFit table state demand) ∷ stateNumbers table state ++ demandNumbers table state demand
+
+-- what is asked of a demand row alone, under a table and a state that are accepted already (1, 6 and 7)
+abbrev pub demandChecks : List ℕ → List ℕ → List ℕ → List Check
+demandChecks table state demand = lengths (rowLengthsFit table state demand) ∷ demandNumbers table state demand

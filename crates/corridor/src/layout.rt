@@ -1,19 +1,19 @@
 // Where each number stands in a table, a state and a demand row: no other code indexes these lists.
 ghost use mathlib.Core.Path.{_≡_};
 ghost use Prim.Native.Nat.{_+_, _*_, _<_};
-ghost use lib.ListN.{length};
+ghost use lib.ListN.{length, set};
 ghost use Rattle.corridor.specs.Layout.{cells, rowAt, rampAt, entryQueue, countAt, queueAt, entryDemand, onDemandAt, offDemandAt};
 use crate::Row;
 
 // N, the whole rows of a table.
-pub(crate) fn cells(table: &[u32]) -> usize
+pub fn cells(table: &[u32]) -> usize
     ensures { λ r. ⌜ r ≡ cells (now (table .entry)) ⌝ }
 {
     table.len() / 9
 }
 
 // Row i of a table.
-pub(crate) fn row_at(table: &[u32], i: usize) -> Row
+pub fn row_at(table: &[u32], i: usize) -> Row
     requires { ⌜ i < cells (now table) ⌝ }
     ensures { λ r. ⌜ r ≡ rowAt (now (table .entry)) i ⌝ }
 {
@@ -31,7 +31,7 @@ pub(crate) fn row_at(table: &[u32], i: usize) -> Row
 }
 
 // The ramp number at position k along the road.
-pub(crate) fn ramp_at(table: &[u32], k: usize) -> u32
+pub fn ramp_at(table: &[u32], k: usize) -> u32
     requires { ⌜ k < 2 * cells (now table) ⌝ }
     ensures { λ r. ⌜ r ≡ rampAt (now (table .entry)) k ⌝ }
 {
@@ -39,42 +39,63 @@ pub(crate) fn ramp_at(table: &[u32], k: usize) -> u32
     if k % 2 == 0 { row.on } else { row.off }
 }
 
-pub(crate) fn entry_queue(state: &[u32]) -> u32
+pub fn entry_queue(state: &[u32]) -> u32
     requires { ⌜ 0 < length (now state) ⌝ }
     ensures { λ r. ⌜ r ≡ entryQueue (now (state .entry)) ⌝ }
 {
     state[0]
 }
 
-pub(crate) fn count_at(state: &[u32], i: usize) -> u32
+pub fn count_at(state: &[u32], i: usize) -> u32
     requires { ⌜ 1 + i < length (now state) ⌝ }
     ensures { λ r. ⌜ r ≡ countAt (now (state .entry)) i ⌝ }
 {
     state[1 + i]
 }
 
-pub(crate) fn queue_at(n: usize, state: &[u32], i: usize) -> u32
+pub fn queue_at(n: usize, state: &[u32], i: usize) -> u32
     requires { ⌜ 1 + n + i < length (now state) ⌝ }
     ensures { λ r. ⌜ r ≡ queueAt n (now (state .entry)) i ⌝ }
 {
     state[1 + n + i]
 }
 
-pub(crate) fn entry_demand(demand: &[u32]) -> u32
+pub fn set_entry_queue(state: &mut [u32], value: u32)
+    requires { ⌜ 0 < length (now state) ⌝ }
+    ensures { λ _. ⌜ now (state .exit) ≡ set (now (state .entry)) 0 value ⌝ }
+{
+    state[0] = value;
+}
+
+pub fn set_count(state: &mut [u32], i: usize, value: u32)
+    requires { ⌜ 1 + i < length (now state) ⌝ }
+    ensures { λ _. ⌜ now (state .exit) ≡ set (now (state .entry)) (1 + i) value ⌝ }
+{
+    state[1 + i] = value;
+}
+
+pub fn set_queue(n: usize, state: &mut [u32], i: usize, value: u32)
+    requires { ⌜ 1 + n + i < length (now state) ⌝ }
+    ensures { λ _. ⌜ now (state .exit) ≡ set (now (state .entry)) (1 + n + i) value ⌝ }
+{
+    state[1 + n + i] = value;
+}
+
+pub fn entry_demand(demand: &[u32]) -> u32
     requires { ⌜ 0 < length (now demand) ⌝ }
     ensures { λ r. ⌜ r ≡ entryDemand (now (demand .entry)) ⌝ }
 {
     demand[0]
 }
 
-pub(crate) fn on_demand_at(demand: &[u32], i: usize) -> u32
+pub fn on_demand_at(demand: &[u32], i: usize) -> u32
     requires { ⌜ 1 + i < length (now demand) ⌝ }
     ensures { λ r. ⌜ r ≡ onDemandAt (now (demand .entry)) i ⌝ }
 {
     demand[1 + i]
 }
 
-pub(crate) fn off_demand_at(n: usize, demand: &[u32], i: usize) -> u32
+pub fn off_demand_at(n: usize, demand: &[u32], i: usize) -> u32
     requires { ⌜ 1 + n + i < length (now demand) ⌝ }
     ensures { λ r. ⌜ r ≡ offDemandAt n (now (demand .entry)) i ⌝ }
 {

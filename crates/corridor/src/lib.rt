@@ -4,11 +4,11 @@ ghost use mathlib.Core.Path.{_≡_};
 ghost use lib.ListN.{length};
 ghost use Rattle.corridor.specs.Layout.{cells, stateLength, demandLength};
 ghost use Rattle.corridor.specs.Checks.{answer};
-ghost use Rattle.corridor.specs.Acceptance.{tableLengthFits, stateLengthsFit, rowLengthsFit, tableNumbers, stateNumbers, demandNumbers, tableChecks, stateChecks, rowChecks};
+ghost use Rattle.corridor.specs.Acceptance.{tableLengthFits, stateLengthsFit, rowLengthsFit, tableNumbers, stateNumbers, demandNumbers, tableChecks, stateChecks, rowChecks, demandChecks};
 ghost use Rattle.corridor.specs.Refusals.{numberOf, placeOf};
 
 mod checks;
-mod layout;
+pub mod layout;
 
 use layout::cells;
 
@@ -192,6 +192,16 @@ pub fn accept_row(table: &[u32], state: &[u32], demand: &[u32]) -> Answer
     let found = state_numbers(table, state);
     if let Answer::Refused(refusal) = found {
         return Answer::Refused(refusal);
+    }
+    demand_numbers(table, state, demand)
+}
+
+// Whether a demand row is accepted under a table and a state that are accepted already: numbers 1, 6 and 7.
+pub fn accept_demand(table: &[u32], state: &[u32], demand: &[u32]) -> Answer
+    ensures { λ r. ⌜ r ≡ answer (demandChecks (now (table .entry)) (now (state .entry)) (now (demand .entry))) ⌝ }
+{
+    if !row_lengths_fit(table, state, demand) {
+        return Answer::Refused(Refusal::Length);
     }
     demand_numbers(table, state, demand)
 }

@@ -1,5 +1,5 @@
 // Runs document 01's worked figures through the public functions and prints a line for each, which is held to the
-// stored output.
+// stored output. The starred ones are also proved, as one list of cases (specs/Figures.antt).
 use corridor::Answer;
 
 // Prints an answer: accepted, or the refusal's number and place.
@@ -29,9 +29,100 @@ fn one_cell(v: u32, w: u32, x: u32) {
     print_answer(corridor::accept_table(&table));
 }
 
+// Prints a word and the numbers of a list.
+fn print_list(word: &[u8], list: &[u32]) {
+    io::write_all(1, word);
+    let mut i = 0;
+    while i < list.len() {
+        io::write_all(1, b" ");
+        io::print_decimal(1, list[i] as u64);
+        i += 1;
+    }
+}
+
+// Runs one period and prints its sheet (entry flow, f, s, r, modes) and the state after it (Q, n, q).
+fn one_period(name: &[u8], table: &[u32], state: &mut [u32], demand: &[u32], sheet: &mut [u32]) {
+    io::write_all(1, name);
+    let answer = period::period(table, state, demand, sheet);
+    print_list(b": sheet", sheet);
+    print_list(b", state", state);
+    io::write_all(1, b", ");
+    print_answer(answer);
+}
+
 fn main() {
     one_cell(65_536, 16_384, 16_384);
     one_cell(65_537, 16_384, 16_384);
     one_cell(32_768, 49_152, 16_384);
     one_cell(32_768, 49_152, 16_385);
+    let road = [
+        32_768u32,
+        16_384,
+        2_000,
+        10_000,
+        0,
+        0,
+        0,
+        0,
+        0,
+        32_768,
+        16_384,
+        2_000,
+        10_000,
+        0,
+        0,
+        0,
+        0,
+        0,
+    ];
+    let mut two_cells = [500u32, 8_000, 4_000, 0, 0];
+    let mut two_sheet = [0u32; 9];
+    one_period(
+        b"printed",
+        &road,
+        &mut two_cells,
+        &[300, 0, 0, 0, 0],
+        &mut two_sheet,
+    );
+    let mut sheet = [0u32; 5];
+    let mut split = [0u32, 1_000, 0];
+    one_period(
+        b"split",
+        &[32_768, 16_384, 1_000_000, 10_000, 0, 0, 0, 7, 16_384],
+        &mut split,
+        &[0, 0, 0],
+        &mut sheet,
+    );
+    let mut held = [0u32, 1_000, 0];
+    one_period(
+        b"split, F 100",
+        &[32_768, 16_384, 100, 10_000, 0, 0, 0, 7, 16_384],
+        &mut held,
+        &[0, 0, 0],
+        &mut sheet,
+    );
+    let mut given = [0u32, 1_000, 0];
+    one_period(
+        b"given o 700",
+        &[32_768, 16_384, 1_000_000, 10_000, 0, 0, 0, 7, 0],
+        &mut given,
+        &[0, 0, 700],
+        &mut sheet,
+    );
+    let mut full = [0u32, 9_000, 2_000];
+    one_period(
+        b"full",
+        &[1, 49_152, 1, 10_000, 5, 16_384, 1_000_000, 0, 0],
+        &mut full,
+        &[5_000, 0, 0],
+        &mut sheet,
+    );
+    let mut small = [0u32, 1, 0];
+    one_period(
+        b"small",
+        &[65_535, 16_384, 1_000, 10_000, 0, 0, 0, 0, 0],
+        &mut small,
+        &[0, 0, 0],
+        &mut sheet,
+    );
 }

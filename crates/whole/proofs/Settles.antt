@@ -12,6 +12,11 @@ abbrev pub Settles : (n : ℕ) (ps : List (PK n)) (r : RK n) → Out n ps r → 
 Settles n ps r Promise =
     (κs : Lfts n) (a : Dens κs ps) (y z : resT r κs .Denot) (e f : AtExit (endedOf n ps r) κs) → Promise κs a y e → Promise κs a z f → y ≡ z
 
+-- the same of a function that also changes lent lists: their contents at exit are equal too
+abbrev pub SettlesLists : (n : ℕ) (ps : List (PK n)) (r : RK n) (L : Type 0) → ((κs : Lfts n) → AtExit (endedOf n ps r) κs → L) → Out n ps r → Type 0
+SettlesLists n ps r L lists Promise =
+    (κs : Lfts n) (a : Dens κs ps) (y z : resT r κs .Denot) (e f : AtExit (endedOf n ps r) κs) → Promise κs a y e → Promise κs a z f → (y ≡ z) × (lists κs e ≡ lists κs f)
+
 -- what equals one thing is one thing
 pub settled {ℓ} : {A : Type ℓ} {x y z : A} → y ≡ x → z ≡ x → y ≡ z
 settled p q = p ∙ sym q

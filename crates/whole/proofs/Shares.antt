@@ -14,6 +14,9 @@ product-fits a b ha hb =
 pub share-within : (a whole : ℕ) → a ≤ ONE → share a whole ≤ whole
 share-within a whole h = omega (arith, mul-le-mul-right whole h)
 
+pub part-within : (whole b : ℕ) → b ≤ ONE → share whole b ≤ whole
+part-within whole b h = omega (arith, mul-le-mul-left whole h)
+
 -- two shares that make at most ONE take no more than the whole between them
 pub shares-fit : (w x whole : ℕ) → w + x ≤ ONE → share w whole + share x whole ≤ whole
 shares-fit w x whole h = omega (arith, mul-le-mul-right whole h, add-mul w x whole)

@@ -1,0 +1,57 @@
+-- What an accepted table, state and demand row say of each cell. Assumes nothing.
+use Prim.Native.Nat.{ℕ, suc, _+_, _≤_, _<_}
+use mathlib.Core.Path.{_≡_}
+use mathlib.Core.List.{List, [], _∷_}
+use native.Mathlib.Omega.{arith}
+use borrow.Author.Tests.{leb-true}
+use lib.Dec.{leb}
+use Rattle.whole.specs.Share.{ONE}
+use Rattle.corridor.specs.declared.Answer.the-variants.{Accepted}
+use Rattle.corridor.specs.Layout.{cells, rowAt, entryQueue, countAt, queueAt, entryDemand, onDemandAt, offDemandAt}
+use Rattle.corridor.specs.Checks.{answer}
+use Rattle.corridor.specs.Acceptance.{withRamp, givenOff, queueLimit, demandLimit, tableNumbers, stateInRange, stateNumbers, demandNumbers}
+use Rattle.corridor.proofs.Answers.{accepted-passes, accepted-both}
+use Rattle.corridor.proofs.Ranges.{InRange, in-range, both-hold}
+
+pub record TableFits (table : List ℕ) : Type 0 where
+  pub rows : (i : ℕ) → i < cells table → InRange (rowAt table i)
+  pub rooms : (i : ℕ) → i < cells table → rowAt table i .w + rowAt table i .x ≤ ONE
+
+pub record StateFits (table state : List ℕ) : Type 0 where
+  pub entry : entryQueue state ≤ queueLimit
+  pub counts : (i : ℕ) → i < cells table → countAt state i ≤ rowAt table i .jam
+  pub queues : (i : ℕ) → i < cells table → queueAt (cells table) state i ≤ withRamp (rowAt table i .on) queueLimit
+
+pub record RowFits (table state demand : List ℕ) : Type 0 where
+  pub entry : entryDemand demand ≤ demandLimit
+  pub ons : (i : ℕ) → i < cells table → onDemandAt demand i ≤ withRamp (rowAt table i .on) demandLimit
+  pub offs : (i : ℕ) → i < cells table → offDemandAt (cells table) demand i ≤ givenOff (rowAt table i)
+  pub entry-holds : entryQueue state + entryDemand demand ≤ queueLimit
+  pub queues-hold : (i : ℕ) → i < cells table → queueAt (cells table) state i + onDemandAt demand i ≤ queueLimit
+
+pub table-fits : (table : List ℕ) → answer (tableNumbers table) ≡ Accepted → TableFits table
+table-fits table e =
+    let rows = accepted-passes _ _ e in
+    let rooms = accepted-passes _ _ (rows .1) in
+    record { rows = λ i h. in-range _ (rows .0 i h); rooms = λ i h. leb-true _ _ (rooms .0 i h) }
+
+pub state-fits : (table state : List ℕ) → answer (stateNumbers table state) ≡ Accepted → StateFits table state
+state-fits table state e =
+    let passed = accepted-passes _ _ (accepted-both (tableNumbers table) (stateInRange table state ∷ []) e .1) .0 in
+    record {
+      entry = leb-true _ _ (passed 0 (omega arith));
+      counts = λ i h. leb-true _ _ (both-hold _ _ (passed (suc i) (omega arith)) .0);
+      queues = λ i h. leb-true _ _ (both-hold (leb (countAt state i) (rowAt table i .jam)) _ (passed (suc i) (omega arith)) .1);
+    }
+
+pub row-fits : (table state demand : List ℕ) → answer (demandNumbers table state demand) ≡ Accepted → RowFits table state demand
+row-fits table state demand e =
+    let ranges = accepted-passes _ _ e in
+    let holds = accepted-passes _ _ (ranges .1) in
+    record {
+      entry = leb-true _ _ (ranges .0 0 (omega arith));
+      ons = λ i h. leb-true _ _ (both-hold _ _ (ranges .0 (suc i) (omega arith)) .0);
+      offs = λ i h. leb-true _ _ (both-hold (leb (onDemandAt demand i) (withRamp (rowAt table i .on) demandLimit)) _ (ranges .0 (suc i) (omega arith)) .1);
+      entry-holds = leb-true _ _ (holds .0 0 (omega arith));
+      queues-hold = λ i h. leb-true _ _ (holds .0 (suc i) (omega arith));
+    }

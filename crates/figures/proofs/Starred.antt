@@ -1,0 +1,12 @@
+-- Every starred figure of document 01 holds, by computation. Assumes nothing.
+use mathlib.Core.Path.{_≡_, refl}
+use mathlib.Core.Bool.{true}
+use Rattle.corridor.specs.Checks.{orLater}
+use Rattle.corridor.specs.Acceptance.{rowInRange}
+use Rattle.period.specs.Cell.{M, leaving, offFlow}
+use Rattle.period.specs.Period.{flowAt, offFlowAt, onFlowAt, countAfter, entryQueueAfter, queueAfter, freeAt, sheetOf, stateAfter}
+use Rattle.figures.specs.Figures.{same, holds, allHold, road, offRamp, starred}
+
+pub every-starred-figure-holds : allHold starred ≡ true
+unfolding orLater rowInRange M leaving offFlow flowAt offFlowAt onFlowAt countAfter entryQueueAfter queueAfter freeAt sheetOf stateAfter same holds allHold road offRamp starred
+every-starred-figure-holds = refl

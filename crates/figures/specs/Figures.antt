@@ -1,0 +1,53 @@
+-- Document 01, "Worked figures": the starred ones as one list of cases, and the test that each must pass.
+use Prim.Native.Nat.{ℕ}
+use mathlib.Core.Bool.{Bool, true, false, _&&_}
+use mathlib.Core.List.{List, [], _∷_, _++_}
+use lib.Dec.{eqb}
+use Rattle.corridor.specs.Checks.{answer}
+use Rattle.corridor.specs.Acceptance.{rowChecks}
+use Rattle.period.specs.Sharing.{asymmetric}
+use Rattle.period.specs.Period.{sheetOf, stateAfter}
+use Rattle.period.specs.Run.{isAccepted}
+
+-- a period of a table, a state and a demand row, with the sheet and the state after it
+pub data Figure : Type 0 where
+  period : List ℕ → List ℕ → List ℕ → List ℕ → List ℕ → Figure
+
+unfoldable pub same : List ℕ → List ℕ → Bool
+same [] [] = true
+same [] (x ∷ xs) = false
+same (x ∷ xs) [] = false
+same (x ∷ xs) (y ∷ ys) = eqb x y && same xs ys
+
+-- the period is accepted, and gives that sheet and that state
+unfoldable pub holds : Figure → Bool
+holds (period table state demand sheet after) =
+    isAccepted (answer (rowChecks table state demand)) && same (sheetOf asymmetric table state demand) sheet && same (stateAfter asymmetric table state demand) after
+
+unfoldable pub allHold : List Figure → Bool
+allHold [] = true
+allHold (figure ∷ figures) = holds figure && allHold figures
+
+-- a row of the printed example
+unfoldable pub road : List ℕ
+road = 32768 ∷ 16384 ∷ 2000 ∷ 10000 ∷ 0 ∷ 0 ∷ 0 ∷ 0 ∷ 0 ∷ []
+
+-- one cell with v 32,768 and an off-ramp, of capacity F and split b
+unfoldable pub offRamp : ℕ → ℕ → List ℕ
+offRamp F b = 32768 ∷ 16384 ∷ F ∷ 10000 ∷ 0 ∷ 0 ∷ 0 ∷ 7 ∷ b ∷ []
+
+unfoldable pub starred : List Figure
+starred =
+    -- the printed period: entry flow 500, f 1,500 and 2,000, both congested
+    period (road ++ road) (500 ∷ 8000 ∷ 4000 ∷ 0 ∷ 0 ∷ []) (300 ∷ 0 ∷ 0 ∷ 0 ∷ 0 ∷ []) (500 ∷ 1500 ∷ 2000 ∷ 0 ∷ 0 ∷ 0 ∷ 0 ∷ 1 ∷ 1 ∷ []) (300 ∷ 7000 ∷ 3500 ∷ 0 ∷ 0 ∷ [])
+    -- n 1,000, b 16,384, F 1,000,000: f 375, s 125, n 500, free
+    ∷ period (offRamp 1000000 16384) (0 ∷ 1000 ∷ 0 ∷ []) (0 ∷ 0 ∷ 0 ∷ []) (0 ∷ 375 ∷ 125 ∷ 0 ∷ 0 ∷ []) (0 ∷ 500 ∷ 0 ∷ [])
+    -- with F 100: f 100, s 33, n 867, congested
+    ∷ period (offRamp 100 16384) (0 ∷ 1000 ∷ 0 ∷ []) (0 ∷ 0 ∷ 0 ∷ []) (0 ∷ 100 ∷ 33 ∷ 0 ∷ 1 ∷ []) (0 ∷ 867 ∷ 0 ∷ [])
+    -- given o 700: s 500, f 0, n 500, free
+    ∷ period (offRamp 1000000 0) (0 ∷ 1000 ∷ 0 ∷ []) (0 ∷ 0 ∷ 700 ∷ []) (0 ∷ 0 ∷ 500 ∷ 0 ∷ 0 ∷ []) (0 ∷ 500 ∷ 0 ∷ [])
+    -- a cell filled to the brim: entry flow 750, r 250, n 10,000 exactly, Q 4,250, q 1,750
+    ∷ period (1 ∷ 49152 ∷ 1 ∷ 10000 ∷ 5 ∷ 16384 ∷ 1000000 ∷ 0 ∷ 0 ∷ []) (0 ∷ 9000 ∷ 2000 ∷ []) (5000 ∷ 0 ∷ 0 ∷ []) (750 ∷ 0 ∷ 0 ∷ 250 ∷ 0 ∷ []) (4250 ∷ 10000 ∷ 1750 ∷ [])
+    -- v 65,535, n 1: D is 0, so nothing flows
+    ∷ period (65535 ∷ 16384 ∷ 1000 ∷ 10000 ∷ 0 ∷ 0 ∷ 0 ∷ 0 ∷ 0 ∷ []) (0 ∷ 1 ∷ 0 ∷ []) (0 ∷ 0 ∷ 0 ∷ []) (0 ∷ 0 ∷ 0 ∷ 0 ∷ 0 ∷ []) (0 ∷ 1 ∷ 0 ∷ [])
+    ∷ []

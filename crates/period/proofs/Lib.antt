@@ -1,0 +1,10 @@
+pub mod Fair
+pub mod Reading
+pub mod Laws
+pub mod Again
+pub mod Facts
+pub mod Filling
+pub mod Updating
+pub mod Done
+pub mod Rows
+pub mod Settled

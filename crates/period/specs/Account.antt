@@ -1,0 +1,20 @@
+-- Demand 3: the vehicles on the corridor, what a demand row brings, and what a period lets out.
+use Prim.Native.Nat.{ℕ, _+_}
+use mathlib.Core.List.{List}
+use Rattle.whole.specs.Sums.{sum}
+use Rattle.corridor.specs.Layout.{cells, entryQueue, countAt, queueAt, entryDemand, onDemandAt}
+use Rattle.period.specs.Sharing.{Sharing}
+use Rattle.period.specs.Period.{flowAt, offFlowAt}
+
+-- vehicles in cells and queues
+abbrev pub vehicles : List ℕ → List ℕ → ℕ
+vehicles table state = entryQueue state + sum (cells table) (countAt state) + sum (cells table) (queueAt (cells table) state)
+
+-- the demand at the entry and the on-ramps
+abbrev pub demanded : List ℕ → List ℕ → ℕ
+demanded table demand = entryDemand demand + sum (cells table) (onDemandAt demand)
+
+-- the off-ramp flows and the last cell's flow
+abbrev pub leftRoad : Sharing → List ℕ → List ℕ → List ℕ → ℕ
+leftRoad way table state demand =
+    sum (cells table) (offFlowAt way table state demand) + flowAt way table state demand (cells table)

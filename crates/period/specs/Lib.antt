@@ -1,0 +1,6 @@
+pub mod Cell
+pub mod Sharing
+pub mod Sheet
+pub mod Period
+pub mod Run
+pub mod Account
