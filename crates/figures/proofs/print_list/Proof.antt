@@ -31,7 +31,7 @@ shared-slice-read-print-decimal : tie.Need-shared-slice-read-print-decimal Inv-l
 shared-slice-read-print-decimal c = search needs
 
 cast-print-decimal : tie.Need-cast-print-decimal Inv-loop μ-loop
-cast-print-decimal c = omega (arith, c .before .before .before .before .before .before .before .shared-slice-known .given (c .before .before .before .before .loop .i))
+cast-print-decimal c = omega (arith, c .shared-slice-known3 .given (c .before .before .before .before .loop .i))
 
 print-decimal-requires : tie.Need-print-decimal-requires Inv-loop μ-loop
 print-decimal-requires c κs = search needs
