@@ -2,4 +2,5 @@ pub mod Answers
 pub mod Ranges
 pub mod Ramps
 pub mod Accepted
+pub mod States
 pub mod Settled

@@ -13,6 +13,10 @@ use Rattle.corridor.proofs.accept_row.Kinds as accept-row-kinds
 use Rattle.corridor.proofs.accept_row.Reads as accept-row
 use Rattle.corridor.proofs.accept_demand.Kinds as accept-demand-kinds
 use Rattle.corridor.proofs.accept_demand.Reads as accept-demand
+use Rattle.corridor.proofs.accept_state_alone.Kinds as accept-state-alone-kinds
+use Rattle.corridor.proofs.accept_state_alone.Reads as accept-state-alone
+use Rattle.corridor.proofs.accept_tables.Kinds as accept-tables-kinds
+use Rattle.corridor.proofs.accept_tables.Reads as accept-tables
 
 pub number-settles : Settles _ number-kinds.ps number-kinds.r number.Learnt
 number-settles κs a y z e f = settled
@@ -31,3 +35,9 @@ accept-row-settles κs a y z e f = settled
 
 pub accept-demand-settles : Settles _ accept-demand-kinds.ps accept-demand-kinds.r accept-demand.Learnt
 accept-demand-settles κs a y z e f = settled
+
+pub accept-state-alone-settles : Settles _ accept-state-alone-kinds.ps accept-state-alone-kinds.r accept-state-alone.Learnt
+accept-state-alone-settles κs a y z e f = settled
+
+pub accept-tables-settles : Settles _ accept-tables-kinds.ps accept-tables-kinds.r accept-tables.Learnt
+accept-tables-settles κs a y z e f = settled

@@ -130,3 +130,15 @@ rowChecks table state demand =
 -- what is asked of a demand row alone, under a table and a state that are accepted already (1, 6 and 7)
 abbrev pub demandChecks : List ℕ → List ℕ → List ℕ → List Check
 demandChecks table state demand = lengths (rowLengthsFit table state demand) ∷ demandNumbers table state demand
+
+-- what is asked of a state alone, under a table that is accepted already (1 and 5)
+abbrev pub stateAloneChecks : List ℕ → List ℕ → List Check
+stateAloneChecks table state = lengths (stateLengthsFit table state) ∷ stateInRange table state ∷ []
+
+-- numbers 2 to 4 of two tables: of one number, the first table's come before the second's
+abbrev pub bothTables : List ℕ → List ℕ → List Check
+bothTables first second =
+    rowsInRange first ∷ rowsInRange second ∷ roomsShared first ∷ roomsShared second ∷ rampsOnce first ∷ rampsOnce second ∷ []
+
+abbrev pub bothTablesChecks : List ℕ → List ℕ → List Check
+bothTablesChecks first second = lengths (tableLengthFits first && tableLengthFits second) ∷ bothTables first second

@@ -25,3 +25,8 @@ orLater check later = pick (ltb (least check) (check .places)) (Refused (check .
 abbrev pub answer : List Check → Answer
 answer [] = Accepted
 answer (check ∷ checks) = orLater check (answer checks)
+
+-- a list's later contents: the new ones where the answer is Accepted, else those it came with
+abbrev pub whenAccepted {ℓ} : {A : Type ℓ} → Answer → A → A → A
+whenAccepted Accepted new old = new
+whenAccepted (Refused refusal) new old = old

@@ -4,7 +4,7 @@ ghost use mathlib.Core.Path.{_≡_};
 ghost use lib.ListN.{length};
 ghost use Rattle.corridor.specs.Layout.{cells, stateLength, demandLength};
 ghost use Rattle.corridor.specs.Checks.{answer};
-ghost use Rattle.corridor.specs.Acceptance.{tableLengthFits, stateLengthsFit, rowLengthsFit, tableNumbers, stateNumbers, demandNumbers, tableChecks, stateChecks, rowChecks, demandChecks};
+ghost use Rattle.corridor.specs.Acceptance.{tableLengthFits, stateLengthsFit, rowLengthsFit, tableNumbers, stateNumbers, demandNumbers, tableChecks, stateChecks, rowChecks, demandChecks, stateAloneChecks, bothTables, bothTablesChecks};
 ghost use Rattle.corridor.specs.Refusals.{numberOf, placeOf};
 
 mod checks;
@@ -204,4 +204,61 @@ pub fn accept_demand(table: &[u32], state: &[u32], demand: &[u32]) -> Answer
         return Answer::Refused(Refusal::Length);
     }
     demand_numbers(table, state, demand)
+}
+
+// Whether a state is accepted under a table that is accepted already: numbers 1 and 5.
+pub fn accept_state_alone(table: &[u32], state: &[u32]) -> Answer
+    ensures { λ r. ⌜ r ≡ answer (stateAloneChecks (now (table .entry)) (now (state .entry))) ⌝ }
+{
+    if !state_lengths_fit(table, state) {
+        return Answer::Refused(Refusal::Length);
+    }
+    let at = checks::state_in_range(table, state);
+    if at <= cells(table) {
+        return Answer::Refused(Refusal::StateNumber(at));
+    }
+    Answer::Accepted
+}
+
+// Numbers 2 to 4 of two tables, each number of the first before the second's.
+fn both_tables(first: &[u32], second: &[u32]) -> Answer
+    ensures { λ r. ⌜ r ≡ answer (bothTables (now (first .entry)) (now (second .entry))) ⌝ }
+{
+    let n = cells(first);
+    let m = cells(second);
+    let row = checks::rows_in_range(first);
+    if row < n {
+        return Answer::Refused(Refusal::TableNumber(row + 1));
+    }
+    let row_too = checks::rows_in_range(second);
+    if row_too < m {
+        return Answer::Refused(Refusal::TableNumber(row_too + 1));
+    }
+    let room = checks::rooms_shared(first);
+    if room < n {
+        return Answer::Refused(Refusal::RoomShares(room + 1));
+    }
+    let room_too = checks::rooms_shared(second);
+    if room_too < m {
+        return Answer::Refused(Refusal::RoomShares(room_too + 1));
+    }
+    let ramp = checks::ramps_once(first);
+    if ramp < 2 * n {
+        return Answer::Refused(Refusal::RampAgain(ramp / 2 + 1));
+    }
+    let ramp_too = checks::ramps_once(second);
+    if ramp_too < 2 * m {
+        return Answer::Refused(Refusal::RampAgain(ramp_too / 2 + 1));
+    }
+    Answer::Accepted
+}
+
+// Whether two tables are accepted: numbers 1 to 4, each number of the first before the second's.
+pub fn accept_tables(first: &[u32], second: &[u32]) -> Answer
+    ensures { λ r. ⌜ r ≡ answer (bothTablesChecks (now (first .entry)) (now (second .entry))) ⌝ }
+{
+    if !(table_length_fits(first) & table_length_fits(second)) {
+        return Answer::Refused(Refusal::Length);
+    }
+    both_tables(first, second)
 }

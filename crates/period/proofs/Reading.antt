@@ -9,29 +9,10 @@ use Rattle.whole.specs.Lists.{build}
 use Rattle.whole.specs.Sums.{atPosition}
 use Rattle.whole.proofs.Lists.{build-length, build-at, at-build, past-build}
 use Rattle.corridor.specs.Layout.{cells, stateLength, entryQueue, countAt, queueAt}
+use Rattle.corridor.proofs.States.{laid-length, laid-entry, laid-count, laid-queue}
 use Rattle.period.specs.Sharing.{Sharing}
 use Rattle.period.specs.Sheet.{flowIn, offFlowIn, onFlowIn}
 use Rattle.period.specs.Period.{flowAt, offFlowAt, onFlowAt, modeAt, countAfter, entryQueueAfter, queueAfter, sheetLength, sheetOf, stateAfter}
-
--- a state that is put together from a queue, counts and queues
-module _ (n entry : ℕ) (count queue : ℕ → ℕ) where
-  abbrev laid : List ℕ
-  laid = build (suc n) (atPosition entry count) ++ build n queue
-
-  laid-length : length laid ≡ stateLength n
-  laid-length =
-      length-append (build (suc n) (atPosition entry count)) (build n queue) ∙ omega (arith, build-length (suc n) (atPosition entry count), build-length n queue)
-
-  laid-entry : entryQueue laid ≡ entry
-  laid-entry = at-build (suc n) (atPosition entry count) (build n queue) 0 0 (omega arith)
-
-  laid-count : (i : ℕ) → i < n → countAt laid i ≡ count i
-  laid-count i h =
-      ap (λ k. getD laid k 0) (one-add i) ∙ at-build (suc n) (atPosition entry count) (build n queue) (suc i) 0 (omega arith)
-
-  laid-queue : (i : ℕ) → i < n → queueAt n laid i ≡ queue i
-  laid-queue i h =
-      ap (λ m. getD laid (m + i) 0) (one-add n) ∙ past-build (suc n) (atPosition entry count) (build n queue) i 0 ∙ build-at n queue i 0 h
 
 module _ (way : Sharing) (table state demand : List ℕ) where
   abbrev after : List ℕ

@@ -22,7 +22,7 @@ use Rattle.corridor.proofs.Answers.{lengths-passed, both-accepted, length-fits-
 use Rattle.corridor.proofs.Ranges.{both-hold, state-length}
 use Rattle.period.specs.declared.Ran.{Ran}
 use Rattle.period.specs.Sharing.{asymmetric}
-use Rattle.period.specs.Period.{sheetLength, sheetOf, stateAfter, RowAccepted, whenAccepted}
+use Rattle.period.specs.Period.{sheetLength, sheetOf, stateAfter, RowAccepted}
 use Rattle.period.specs.Run.{rows, rowOf, isAccepted, stateAfterPeriods, sheetAfterPeriods, rowAnswer, completed, rowsAnswer, runListsFit, runChecks, RowDone, RowsDone, RunDone}
 use Rattle.period.proofs.Fair.{asymmetric-is-fair}
 use Rattle.period.proofs.Reading.{after-length, sheet-length}

@@ -9,8 +9,9 @@ use lib.ListN.{length, getD, set, length-set}
 use lib.Seq.{getD-set-same, getD-set-other}
 use Rattle.whole.specs.Lists.{build}
 use Rattle.whole.specs.Sums.{atPosition}
-use Rattle.whole.proofs.Columns.{Column, column-none, column-more, column-stays, column-part, column-then, column-last}
+use Rattle.whole.proofs.Columns.{Column, column-none, column-more, column-stays, column-part}
 use Rattle.corridor.specs.Layout.{cells, rowAt, stateLength, entryQueue, countAt, queueAt, entryDemand, onDemandAt}
+use Rattle.corridor.proofs.States.{whole-state}
 use Rattle.period.specs.Sharing.{asymmetric}
 use Rattle.period.specs.Sheet.{flowIn, offFlowIn, onFlowIn}
 use Rattle.period.specs.Period.{flowAt, offFlowAt, onFlowAt, countAfter, entryQueueAfter, queueAfter, sheetOf, stateAfter}
@@ -62,10 +63,6 @@ module _ (n i a b : ℕ) (state : List ℕ) (h : i < n) (len : length state ≡ 
   unfolding one two
   kept-entry =
       getD-set-other one (1 + n + i) 0 b 0 (λ at. omega arith) ∙ getD-set-other state (1 + i) 0 a 0 (λ at. omega arith)
-
-whole-state : (n : ℕ) (state : List ℕ) (at queue : ℕ → ℕ) → length state ≡ stateLength n → Column state 0 0 (suc n) at → Column state (1 + n) 0 n queue → state ≡ build (suc n) at ++ build n queue
-whole-state n state at queue len firsts queues =
-    column-then state 0 (suc n) (1 + n) at _ (omega arith) (omega arith) firsts (column-last state (1 + n) n queue (omega arith) queues)
 
 module _ (table state demand : List ℕ) where
   -- the cells from i on are brought up to date, those before are as they were

@@ -9,9 +9,9 @@ use Rattle.whole.specs.Lists.{build}
 use Rattle.whole.specs.Sums.{atPosition}
 use Rattle.whole.specs.Search.{pick}
 use Rattle.corridor.specs.declared.Answer.{Answer}
-use Rattle.corridor.specs.declared.Answer.the-variants.{Accepted, Refused}
+use Rattle.corridor.specs.declared.Answer.the-variants.{Accepted}
 use Rattle.corridor.specs.Layout.{cells, rowAt, entryQueue, countAt, queueAt, entryDemand, onDemandAt, offDemandAt}
-use Rattle.corridor.specs.Checks.{Check, answer}
+use Rattle.corridor.specs.Checks.{Check, answer, whenAccepted}
 use Rattle.corridor.specs.Acceptance.{rowLengthsFit, lengths, stateNumbers, demandNumbers, rowChecks}
 use Rattle.period.specs.Cell.{M, capacityNow, offered, rampOffered, offFlow}
 use Rattle.period.specs.Sharing.{Sharing, asymmetric}
@@ -77,11 +77,6 @@ sheetLength n = 4 * n + 1
 abbrev pub periodChecks : List ℕ → List ℕ → List ℕ → List ℕ → List Check
 periodChecks table state demand sheet =
     lengths (rowLengthsFit table state demand && eqb (length sheet) (sheetLength (cells table))) ∷ stateNumbers table state ++ demandNumbers table state demand
-
--- a list's later contents: the new ones where the answer is Accepted, else those it came with
-abbrev pub whenAccepted {ℓ} : {A : Type ℓ} → Answer → A → A → A
-whenAccepted Accepted new old = new
-whenAccepted (Refused refusal) new old = old
 
 -- the table, state and demand row of an accepted period
 abbrev pub RowAccepted : List ℕ → List ℕ → List ℕ → Type 0

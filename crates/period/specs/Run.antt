@@ -9,11 +9,11 @@ use Rattle.whole.specs.Search.{pick, firstFailing}
 use Rattle.corridor.specs.declared.Answer.{Answer}
 use Rattle.corridor.specs.declared.Answer.the-variants.{Accepted, Refused}
 use Rattle.corridor.specs.Layout.{cells, demandLength}
-use Rattle.corridor.specs.Checks.{Check, answer}
+use Rattle.corridor.specs.Checks.{Check, answer, whenAccepted}
 use Rattle.corridor.specs.Acceptance.{stateLengthsFit, lengths, stateNumbers, demandNumbers}
 use Rattle.period.specs.declared.Ran.{Ran}
 use Rattle.period.specs.Sharing.{asymmetric}
-use Rattle.period.specs.Period.{sheetLength, sheetOf, stateAfter, whenAccepted}
+use Rattle.period.specs.Period.{sheetLength, sheetOf, stateAfter}
 
 -- K, and the demand row of index k
 abbrev pub rows : List ℕ → List ℕ → ℕ

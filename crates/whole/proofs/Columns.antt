@@ -47,3 +47,13 @@ column-then l start n next f rest e h column after =
 pub column-last : (l : List ℕ) (start n : ℕ) (f : ℕ → ℕ) → start + n ≡ length l → Column l start 0 n f → drop start l ≡ build n f
 column-last l start n f h column =
     is-build 0 (drop start l) n f (length-drop start l ∙ omega arith) λ k below. getD-drop start l k 0 ∙ column .holds k (omega arith) below
+
+-- a store just above makes the column one longer
+pub column-longer : (l : List ℕ) (start low i v : ℕ) (f : ℕ → ℕ) → start + i < length l → v ≡ f i → Column l start low i f → Column (set l (start + i) v) start low (i + 1) f
+column-longer l start low i v f h e column = record { holds = λ k from below. by k from below (ℕ-discrete k i) }
+  where
+    by : (k : ℕ) → low ≤ k → k < i + 1 → Dec (k ≡ i) → getD (set l (start + i) v) (start + k) 0 ≡ f k
+    by k from below (yes same) = rw same (getD-set-same l (start + i) v 0 h ∙ e)
+    by k from below (no other) =
+        getD-set-other l (start + i) (start + k) v 0 (λ at. other (omega arith))
+        ∙ column .holds k from (omega (arith, other))

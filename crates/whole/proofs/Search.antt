@@ -1,12 +1,13 @@
 -- The least index that fails a test is determined: the test fails there, and at none before; or it fails at none. Assumes nothing.
 use Prim.Native.Nat.{ℕ, zero, suc, _+_, _≤_, _<_, zero-le, suc-le-suc}
-use mathlib.Core.Path.{_≡_, refl, ap, sym, _∙_}
-use mathlib.Core.Bool.{Bool, true, false, not}
+use mathlib.Core.Path.{_≡_, refl, ap, ap₂, sym, _∙_}
+use mathlib.Core.Bool.{Bool, true, false, not, _&&_, and-false, false≢true}
 use native.Mathlib.Nat.{le-of-suc-le-suc, not-suc-le-zero, le-antisymm}
 use native.Mathlib.Omega.{arith}
+use native.Mathlib.Decide.{ℕ-discrete}
 use borrow.Author.Count.{below-more}
 use borrow.Author.Tests.{not-true, not-false}
-use Rattle.whole.specs.Search.{pick, firstFailing}
+use Rattle.whole.specs.Search.{pick, every, firstFailing}
 
 -- each index below n passes
 abbrev pub Passes : ℕ → (ℕ → Bool) → Type 0
@@ -73,3 +74,30 @@ found {places} {i = i} {test} at h e fails =
 
 pub not-found : {places n i : ℕ} {test : ℕ → Bool} → Searching places test n i → n ≤ i → n ≡ firstFailing places test
 not-found {places} {test = test} at ends = at .whole ∙ sym (none-fails places test λ k h. at .passed k (omega arith))
+
+-- `every` says the same of all indices at once
+
+pub every-passes : (n : ℕ) (test : ℕ → Bool) → Passes n test → every n test ≡ true
+every-passes zero test all = refl
+every-passes (suc n) test all = ap₂ (λ a b. a && b) (every-passes n test (λ k h. all k (omega arith))) (all n (omega arith))
+
+pub every-fails : (n : ℕ) (test : ℕ → Bool) (k : ℕ) → k < n → test k ≡ false → every n test ≡ false
+every-fails zero test k h e = absurd (not-suc-le-zero h)
+every-fails (suc n) test k h e = by (ℕ-discrete k n) λ below. every-fails n test k below e
+  where
+    by : Dec (k ≡ n) → (k < n → every n test ≡ false) → (every n test && test n) ≡ false
+    by (yes same) shorter = ap (λ b. every n test && b) (ap test (sym same) ∙ e) ∙ and-false (every n test)
+    by (no other) shorter = ap (λ b. b && test n) (shorter (omega (arith, other)))
+
+pub passes-every : (n : ℕ) (test : ℕ → Bool) → every n test ≡ true → Passes n test
+passes-every n test e k h = by (test k) refl
+  where
+    by : (b : Bool) → test k ≡ b → test k ≡ true
+    by true at = at
+    by false at = absurd (false≢true (sym (every-fails n test k h at) ∙ e))
+
+pub every-found : {places n i : ℕ} {test : ℕ → Bool} {r : Bool} → Searching places test n i → i < n → r ≡ test i → not r ≡ true → false ≡ every places test
+every-found {places} {i = i} {test} at h e fails = sym (every-fails places test i (omega (arith, at .whole)) (sym e ∙ not-true _ fails))
+
+pub every-ends : {places n i : ℕ} {test : ℕ → Bool} → Searching places test n i → n ≤ i → true ≡ every places test
+every-ends {places} {test = test} at ends = sym (every-passes places test λ k h. at .passed k (omega (arith, at .whole)))

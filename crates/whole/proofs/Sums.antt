@@ -1,7 +1,8 @@
 -- The laws of sums over an index. Assumes nothing.
-use Prim.Native.Nat.{ℕ, zero, suc, _+_, _-_, _<_}
+use Prim.Native.Nat.{ℕ, zero, suc, _+_, _-_, _≤_, _<_}
 use mathlib.Core.Path.{_≡_, refl, ap, sym, _∙_}
 use native.Mathlib.Nat.{not-suc-le-zero}
+use native.Mathlib.Numerals.{add-one}
 use native.Mathlib.Decide.{ℕ-discrete}
 use native.Mathlib.Omega.{arith}
 use Rattle.whole.specs.Sums.{sum, atPosition}
@@ -43,3 +44,19 @@ at-entry entry cell position e = rw e
 pub at-cell {ℓ} : {A : Type ℓ} (entry : A) (cell : ℕ → A) (position : ℕ) → (position ≡ 0 → ⊥) → atPosition entry cell position ≡ cell (position - 1)
 at-cell entry cell zero other = absurd (other refl)
 at-cell entry cell (suc i) other = ap cell (omega arith)
+
+-- a sum over more indices is no less
+pub sum-grows : (n m : ℕ) (f : ℕ → ℕ) → n ≤ m → sum n f ≤ sum m f
+sum-grows n zero f h = rw same (omega arith)
+  where
+    same : n ≡ 0
+    same = omega arith
+sum-grows n (suc m) f h = by (ℕ-discrete n (suc m)) λ below. sum-grows n m f below
+  where
+    by : Dec (n ≡ suc m) → (n ≤ m → sum n f ≤ sum m f) → sum n f ≤ sum m f + f m
+    by (yes e) shorter = rw e (omega arith)
+    by (no other) shorter = omega (arith, shorter (omega (arith, other)))
+
+-- one more term, as a loop adds it
+pub sum-more : (i : ℕ) (f : ℕ → ℕ) {s v : ℕ} → s ≡ sum i f → v ≡ f i → s + v ≡ sum (i + 1) f
+sum-more i f e h = rw add-one (omega arith)

@@ -1,0 +1,23 @@
+-- The first half of number 8: whether the counts sum to the new N. Assumes nothing.
+use mathlib.Core.Path.{_≡_, refl}
+use mathlib.Core.List.{List}
+use Prim.Native.Nat.{ℕ}
+use borrow.Author.Tests.{eq-eqb, ne-eqb}
+use lib.Dec.{eqb}
+use Rattle.whole.specs.Sums.{sum}
+use Rattle.corridor.specs.declared.Answer.{Answer}
+use Rattle.corridor.specs.declared.Answer.the-variants.{Refused}
+use Rattle.corridor.specs.declared.Refusal.the-variants.{Pieces}
+use Rattle.corridor.specs.Layout.{cells}
+use Rattle.corridor.specs.Checks.{orLater}
+use Rattle.recut.specs.Pieces.{pieceCount}
+use Rattle.recut.specs.Recut.{countsSum}
+
+module _ (old pieces new : List ℕ) where
+  pub counts-fail : (later : Answer) → (sum (cells old) (pieceCount pieces) ≡ cells new → ⊥) → Refused (Pieces 0) ≡ orLater (countsSum old pieces new) later
+  unfolding orLater
+  counts-fail later other = rw (ne-eqb _ _ other)
+
+  pub counts-fit : {a later : Answer} → sum (cells old) (pieceCount pieces) ≡ cells new → a ≡ later → a ≡ orLater (countsSum old pieces new) later
+  unfolding orLater
+  counts-fit same e = rw (eq-eqb _ _ same) e

@@ -1,0 +1,89 @@
+-- How a re-cut ends: what it answers and leaves. Assumes nothing.
+use Prim.Native.Nat.{ℕ, _%_, _≤_}
+use mathlib.Core.Path.{_≡_, refl, sym, ap, _∙_}
+use mathlib.Core.Bool.{Bool, true, false, _&&_, and-true}
+use mathlib.Core.List.{List, [], _∷_, _++_}
+use native.Mathlib.Omega.{arith}
+use borrow.Author.Tests.{eqb-true, eq-eqb, leb-true}
+use lib.Dec.{eqb, leb}
+use lib.ListN.{length}
+use Rattle.whole.specs.Search.{within}
+use Rattle.corridor.specs.declared.Refusal.{Refusal}
+use Rattle.corridor.specs.declared.Refusal.the-variants.{Length}
+use Rattle.corridor.specs.declared.Answer.the-variants.{Accepted, Refused}
+use Rattle.corridor.specs.Layout.{cells, stateLength}
+use Rattle.corridor.specs.Checks.{Check, answer}
+use Rattle.corridor.specs.Acceptance.{tableLengthFits, stateLengthsFit, stateInRange, bothTables, bothTablesChecks, stateAloneChecks}
+use Rattle.corridor.proofs.Answers.{length-fails, length-fits-too, lengths-passed, refused-stays, accepted-goes-on, accepted-passes}
+use Rattle.corridor.proofs.Ranges.{both-hold}
+use Rattle.recut.specs.Recut.{newState, recutListsFit, piecesNumbers, recutChecks, Cut, RecutDone}
+
+module _ (old state pieces new list : List ℕ) where
+  abbrev later : List Check
+  later = stateInRange old state ∷ piecesNumbers old pieces new
+
+  refused : {refusal : Refusal} → Refused refusal ≡ answer (recutChecks old state pieces new list) → RecutDone old state pieces new list (Refused refusal) list
+  refused e = record { answered = e; leaves = rw (← e) }
+
+  pub lists-refused : recutListsFit old state pieces new list ≡ false → RecutDone old state pieces new list (Refused Length) list
+  lists-refused e = refused (length-fails (bothTables old new ++ later) (tableLengthFits old && tableLengthFits new) e)
+
+  module _ (fit : recutListsFit old state pieces new list ≡ true) where
+    state-length : length state ≡ stateLength (cells old)
+    state-length =
+        eqb-true _ _
+        (both-hold (eqb (length state) (stateLength (cells old))) (eqb (length pieces) (cells old)) (both-hold (eqb (length state) (stateLength (cells old)) && eqb (length pieces) (cells old)) (eqb (length list) (stateLength (cells new))) fit .0) .0)
+
+    pub counts-length : length pieces ≡ cells old
+    counts-length =
+        eqb-true _ _
+        (both-hold (eqb (length state) (stateLength (cells old))) (eqb (length pieces) (cells old)) (both-hold (eqb (length state) (stateLength (cells old)) && eqb (length pieces) (cells old)) (eqb (length list) (stateLength (cells new))) fit .0) .1)
+
+    pub list-length : length list ≡ stateLength (cells new)
+    list-length =
+        eqb-true _ _ (both-hold (eqb (length state) (stateLength (cells old)) && eqb (length pieces) (cells old)) (eqb (length list) (stateLength (cells new))) fit .1)
+
+    checks-are : answer (recutChecks old state pieces new list) ≡ answer (bothTablesChecks old new ++ later)
+    checks-are = length-fits-too (bothTables old new ++ later) (tableLengthFits old && tableLengthFits new) fit
+
+    pub tables-refused : {refusal : Refusal} → Refused refusal ≡ answer (bothTablesChecks old new) → RecutDone old state pieces new list (Refused refusal) list
+    tables-refused e = refused (refused-stays (bothTablesChecks old new) later e ∙ sym checks-are)
+
+    module _ (tables : Accepted ≡ answer (bothTablesChecks old new)) where
+      table-lengths : (tableLengthFits old ≡ true) × (tableLengthFits new ≡ true)
+      table-lengths = both-hold (tableLengthFits old) (tableLengthFits new) (accepted-passes _ _ (sym tables) .0 0 (omega arith))
+
+      cells-within : (table : List ℕ) → tableLengthFits table ≡ true → cells table ≤ 512
+      cells-within table e =
+          leb-true (cells table) 512 (both-hold (leb 1 (cells table)) (leb (cells table) 512) (both-hold (eqb (length table % 9) 0) (within 1 512 (cells table)) e .1) .1)
+
+      pub pieces-ask : (length pieces ≡ cells old) × (cells old ≤ 512) × (cells new ≤ 512)
+      pieces-ask = (counts-length, cells-within old (table-lengths .0), cells-within new (table-lengths .1))
+
+      state-alone : answer (stateAloneChecks old state) ≡ answer (stateInRange old state ∷ [])
+      state-alone =
+          lengths-passed (stateInRange old state ∷ [])
+          (ap (λ b. tableLengthFits old && b) (eq-eqb _ _ state-length) ∙ and-true _ ∙ table-lengths .0)
+
+      pub state-refused : {refusal : Refusal} → Refused refusal ≡ answer (stateAloneChecks old state) → RecutDone old state pieces new list (Refused refusal) list
+      state-refused e =
+          refused
+          (accepted-goes-on (bothTablesChecks old new) later tables
+          (refused-stays (stateInRange old state ∷ []) (piecesNumbers old pieces new) (e ∙ state-alone))
+          ∙ sym checks-are)
+
+      module _ (numbers : Accepted ≡ answer (stateAloneChecks old state)) where
+        pub pieces-refused : {refusal : Refusal} → Refused refusal ≡ answer (piecesNumbers old pieces new) → RecutDone old state pieces new list (Refused refusal) list
+        pieces-refused e =
+            refused
+            (accepted-goes-on (bothTablesChecks old new) later tables
+            (accepted-goes-on (stateInRange old state ∷ []) (piecesNumbers old pieces new) (numbers ∙ state-alone) e)
+            ∙ sym checks-are)
+
+        pub cut-done : {left : List ℕ} → Accepted ≡ answer (piecesNumbers old pieces new) → left ≡ newState old state pieces new → RecutDone old state pieces new list Accepted left
+        cut-done e left =
+            let whole =
+            accepted-goes-on (bothTablesChecks old new) later tables
+            (accepted-goes-on (stateInRange old state ∷ []) (piecesNumbers old pieces new) (numbers ∙ state-alone) e)
+            ∙ sym checks-are in
+            record { answered = whole; leaves = rw (← whole) left }

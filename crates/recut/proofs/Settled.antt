@@ -1,0 +1,10 @@
+-- The promise of the re-cut settles its answer and what it leaves in the new state's list. Assumes nothing.
+use Prim.Native.Nat.{ℕ}
+use mathlib.Core.List.{List}
+use denote.Ref.{now}
+use Rattle.whole.proofs.Settles.{SettlesLists, settled}
+use Rattle.recut.proofs.recut.Kinds as recut-kinds
+use Rattle.recut.proofs.recut.Reads as recut
+
+pub recut-settles : SettlesLists _ recut-kinds.ps recut-kinds.r (List ℕ) (λ κs e. now (e .1 .1 .1 .1 .0)) recut.Learnt
+recut-settles κs a y z e f p q = (settled (p .answered) (q .answered), settled (p .leaves) (q .leaves))

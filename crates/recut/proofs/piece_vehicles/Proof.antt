@@ -1,0 +1,37 @@
+-- `recut::piece_vehicles` meets its contract. Assumes nothing.
+use Prim.Native.Nat.{_+_}
+use native.Mathlib.Omega.{arith}
+use borrow.Author.Needs.{needs}
+use Rattle.whole.proofs.Shares.{product-fits}
+use Rattle.recut.proofs.Shares.{share-grows, share-at-most}
+use Rattle.recut.proofs.piece_vehicles.Statement.{statement}
+use Rattle.recut.proofs.piece_vehicles.Tie as tie
+
+add-upto : tie.Need-add-upto
+add-upto c = search needs
+
+mul-upto : tie.Need-mul-upto
+mul-upto c = record { fits = product-fits _ _ (omega arith) (omega arith) }
+
+div-upto : tie.Need-div-upto
+div-upto c = search needs
+
+mul-result : tie.Need-mul-result
+mul-result c = record { fits = product-fits _ _ (omega arith) (omega arith) }
+
+div-result : tie.Need-div-result
+div-result c = search needs
+
+sub-result : tie.Need-sub-result
+sub-result c = share-grows (c .args .n) (c .args .whole) (c .args .before) (c .args .before + c .args .jam) (c .pre .0) (omega arith)
+
+cast-result : tie.Need-cast-result
+cast-result c = omega (arith, share-at-most (c .args .n) (c .args .whole) (c .args .before + c .args .jam) (c .pre .0) (omega arith))
+
+returns : tie.Need-returns
+returns c = search needs
+
+pub piece-vehicles-spec : {M : Type 1} → statement M
+piece-vehicles-spec =
+    tie.close
+    (tie.spec add-upto mul-upto div-upto mul-result div-result sub-result cast-result returns)

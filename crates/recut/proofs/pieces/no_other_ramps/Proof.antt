@@ -1,0 +1,58 @@
+-- `recut::pieces::no_other_ramps` meets its contract. Assumes nothing.
+use Prim.Native.Nat.{_-_, _+_}
+use mathlib.Core.Path.{refl, ap, _∙_}
+use borrow.Author.Needs.{needs}
+use Rattle.whole.proofs.Search.{every-found, every-ends, Searching, begins, goes-on}
+use Rattle.corridor.specs.Layout.{rowAt}
+use Rattle.recut.specs.Pieces.{noOtherRamp}
+use Rattle.recut.proofs.pieces.no_other_ramps.Statement.{statement}
+use Rattle.recut.proofs.pieces.no_other_ramps.Tie as tie
+
+abbrev Inv-loop : tie.InvT-loop
+Inv-loop new first count k₀ k = Searching count (λ m. noOtherRamp count m (rowAt new (first + m))) count k
+
+abbrev μ-loop : tie.MeasureT-loop
+μ-loop new first count k₀ k = count - k
+
+loop-holds : tie.Need-loop-holds Inv-loop μ-loop
+loop-holds c = begins _ refl
+
+add-row-at : tie.Need-add-row-at Inv-loop μ-loop
+add-row-at c = search needs
+
+row-at-requires : tie.Need-row-at-requires Inv-loop μ-loop
+row-at-requires c κs = search needs
+
+no-other-ramp-requires : tie.Need-no-other-ramp-requires Inv-loop μ-loop
+no-other-ramp-requires c κs = search needs
+
+returns : tie.Need-returns Inv-loop μ-loop
+returns c = every-found (c .before .before .before .before .loop .inv) (search needs) (c .before .no-other-ramp .ensures ∙ ap (noOtherRamp (c .before .before .before .before .before .before .args .count) (c .before .before .before .before .loop .k)) (c .before .before .row-at .ensures)) (c .if1 .taken)
+
+add-k : tie.Need-add-k Inv-loop μ-loop
+add-k c = search needs
+
+loop-less : tie.Need-loop-less Inv-loop μ-loop
+loop-less c = search needs
+
+loop-again : tie.Need-loop-again Inv-loop μ-loop
+loop-again c = goes-on (c .before .before .before .before .loop .inv) (search needs) (c .before .no-other-ramp .ensures ∙ ap (noOtherRamp (c .before .before .before .before .before .before .args .count) (c .before .before .before .before .loop .k)) (c .before .before .row-at .ensures)) (c .if1 .left)
+
+returns-2 : tie.Need-returns-2 Inv-loop μ-loop
+returns-2 c = every-ends (c .before .loop .inv) (search needs)
+
+pub no-other-ramps-spec : {M : Type 1} → statement M
+no-other-ramps-spec =
+    tie.close
+    (tie.spec
+    Inv-loop
+    μ-loop
+    loop-holds
+    add-row-at
+    row-at-requires
+    no-other-ramp-requires
+    returns
+    add-k
+    loop-less
+    loop-again
+    returns-2)

@@ -1,0 +1,119 @@
+// The re-cut: each old cell becomes consecutive new cells, and its vehicles, its queue and its ramps go on under the new table.
+ghost use mathlib.Core.Path.{_≡_};
+ghost use mathlib.Core.Bool.{true};
+ghost use Prim.Native.Nat.{_+_, _≤_, _<_};
+ghost use lib.ListN.{length};
+ghost use lib.Dec.{eqb};
+ghost use Rattle.whole.specs.Search.{pick};
+ghost use Rattle.corridor.specs.Layout.{cells, stateLength};
+ghost use Rattle.corridor.specs.Checks.{answer};
+ghost use Rattle.recut.specs.Recut.{pieceVehicles, newState, recutListsFit, piecesNumbers, Cut, RecutDone};
+
+mod pieces;
+
+use corridor::Answer;
+use corridor::Refusal;
+use corridor::layout::*;
+use pieces::*;
+
+// A piece of an old cell: its cell, its number there, and the sum of J before it.
+pub struct Piece {
+    pub cell: usize,
+    pub number: usize,
+    pub before: u64,
+}
+
+// The vehicles of a piece of the given jam count, of a cell that holds n and has jam count whole.
+fn piece_vehicles(n: u32, whole: u32, before: u64, jam: u32) -> u32
+    requires { ⌜ (0 < whole) × (n ≤ whole) × (before + jam ≤ whole) ⌝ }
+    ensures { λ r. ⌜ r ≡ pieceVehicles n whole before jam ⌝ }
+{
+    let j = whole as u64;
+    let upto = n as u64 * (before + jam as u64) / j;
+    (upto - n as u64 * before / j) as u32
+}
+
+// The vehicles and queues of the old cells, shared out among their pieces.
+fn cut(old: &[u32], state: &[u32], pieces: &[u32], new: &[u32], list: &mut [u32])
+    requires { ⌜ Cut (now old) (now state) (now pieces) (now new) ⌝ }
+    requires { ⌜ length (now list) ≡ stateLength (cells (now new)) ⌝ }
+    ensures { λ _. ⌜ now (list .exit) ≡ newState (now (old .entry)) (now (state .entry)) (now (pieces .entry)) (now (new .entry)) ⌝ }
+{
+    let n = cells(old);
+    let m = cells(new);
+    let mut piece = Piece {
+        cell: 0,
+        number: 0,
+        before: 0,
+    };
+    let mut j = 0;
+    while j < m {
+        let cell = piece.cell;
+        let row = row_at(old, cell);
+        let new_row = row_at(new, j);
+        set_count(
+            list,
+            j,
+            piece_vehicles(count_at(state, cell), row.jam, piece.before, new_row.jam),
+        );
+        set_queue(m, list, j, queue_of(piece.number, queue_at(n, state, cell)));
+        piece = next_piece(pieces, piece, new_row.jam);
+        j += 1;
+    }
+    set_entry_queue(list, entry_queue(state));
+}
+
+// The on-ramp queue goes to the first piece.
+fn queue_of(number: usize, queue: u32) -> u32
+    ensures { λ r. ⌜ r ≡ pick (eqb number 0) queue 0 ⌝ }
+{
+    if number == 0 { queue } else { 0 }
+}
+
+// Number 8.
+fn pieces_numbers(old: &[u32], pieces: &[u32], new: &[u32]) -> Answer
+    requires { ⌜ (length (now pieces) ≡ cells (now old)) × (cells (now old) ≤ 512) × (cells (now new) ≤ 512) ⌝ }
+    ensures { λ r. ⌜ r ≡ answer (piecesNumbers (now (old .entry)) (now (pieces .entry)) (now (new .entry))) ⌝ }
+{
+    if total(pieces) != cells(new) {
+        return Answer::Refused(Refusal::Pieces(0));
+    }
+    let cell = cells_are_cut(old, pieces, new);
+    if cell < cells(old) {
+        return Answer::Refused(Refusal::Pieces(cell + 1));
+    }
+    Answer::Accepted
+}
+
+// Number 1 of a re-cut's lists under its two tables.
+fn recut_lists_fit(old: &[u32], state: &[u32], pieces: &[u32], new: &[u32], list: &[u32]) -> bool
+    ensures { λ r. ⌜ r ≡ recutListsFit (now (old .entry)) (now (state .entry)) (now (pieces .entry)) (now (new .entry)) (now (list .entry)) ⌝ }
+{
+    (state.len() == 2 * cells(old) + 1)
+        & (pieces.len() == cells(old))
+        & (list.len() == 2 * cells(new) + 1)
+}
+
+// The re-cut of a table and a state into a new table, with one piece count for each old cell: numbers 1 to 5 and 8. The new state goes to
+// the list; on a refusal that stays as it came.
+pub fn recut(old: &[u32], state: &[u32], pieces: &[u32], new: &[u32], list: &mut [u32]) -> Answer
+    ensures { λ r. ⌜ RecutDone (now (old .entry)) (now (state .entry)) (now (pieces .entry)) (now (new .entry)) (now (list .entry)) r (now (list .exit)) ⌝ }
+{
+    if !recut_lists_fit(old, state, pieces, new, list) {
+        return Answer::Refused(Refusal::Length);
+    }
+    let tables = corridor::accept_tables(old, new);
+    if let Answer::Refused(refusal) = tables {
+        return Answer::Refused(refusal);
+    }
+    let numbers = corridor::accept_state_alone(old, state);
+    if let Answer::Refused(refusal) = numbers {
+        return Answer::Refused(refusal);
+    }
+    let eighth = pieces_numbers(old, pieces, new);
+    if let Answer::Refused(refusal) = eighth {
+        return Answer::Refused(refusal);
+    }
+    cut(old, state, pieces, new, list);
+    Answer::Accepted
+}
