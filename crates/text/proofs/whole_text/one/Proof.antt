@@ -1,0 +1,55 @@
+use borrow.Author.Needs.{needs}
+use Rattle.text.proofs.whole_text.one.Statement.{statement}
+use Rattle.text.proofs.whole_text.one.Tie as tie
+use Rattle.text.proofs.whole_text.one.Reads as reads
+use Rattle.text.proofs.whole_text.one.Lts as lts
+
+-- src/whole_text.rt:125:21
+enum-known-text : tie.Need-enum-known-text
+enum-known-text c = search needs
+
+-- src/whole_text.rt:127:17
+returns : tie.Need-returns
+returns c = ?
+
+-- src/whole_text.rt:135:24
+enum-known-text-2 : tie.Need-enum-known-text-2
+enum-known-text-2 c = search needs
+
+-- src/whole_text.rt:142:26
+enum-told : tie.Need-enum-told
+enum-told c = search needs
+
+-- src/whole_text.rt:121:1
+returns-2 : tie.Need-returns-2
+returns-2 c = ?
+
+-- src/whole_text.rt:121:1
+returns-3 : tie.Need-returns-3
+returns-3 c = ?
+
+-- src/whole_text.rt:121:1
+returns-4 : tie.Need-returns-4
+returns-4 c = ?
+
+-- src/whole_text.rt:121:1
+returns-5 : tie.Need-returns-5
+returns-5 c = ?
+
+-- src/whole_text.rt:121:1
+returns-6 : tie.Need-returns-6
+returns-6 c = ?
+
+pub one-spec : {M : Type 1} → statement M
+one-spec =
+    tie.close
+    (tie.spec
+    enum-known-text
+    returns
+    enum-known-text-2
+    enum-told
+    returns-2
+    returns-3
+    returns-4
+    returns-5
+    returns-6)

@@ -1,0 +1,187 @@
+use Rattle.text.proofs.whole_text.store_text.Statement.{statement}
+use Rattle.text.proofs.whole_text.store_text.Tie as tie
+use Rattle.text.proofs.whole_text.store_text.Reads as reads
+use Rattle.text.proofs.whole_text.store_text.Lts as lts
+use Rattle.text.proofs.begin.Reads as begin-reads
+use Rattle.text.proofs.feed.Reads as feed-reads
+use Rattle.text.proofs.field.put.Reads as put-reads
+
+abbrev Inv-loop : tie.InvT-loop
+Inv-loop text fields list₀ scan₀ place₀ i₀ list scan place i = ?
+
+abbrev μ-loop : tie.MeasureT-loop
+μ-loop text fields list₀ scan₀ place₀ i₀ list scan place i = ?
+
+-- src/whole_text.rt:85:9
+begin-requires : tie.Need-begin-requires Inv-loop μ-loop
+begin-requires c κs = ?
+
+-- src/whole_text.rt:88:5
+loop-holds : tie.Need-loop-holds Inv-loop μ-loop
+loop-holds c = ?
+
+-- src/whole_text.rt:89:20
+shared-slice-read-byte : tie.Need-shared-slice-read-byte Inv-loop μ-loop
+shared-slice-read-byte c = ?
+
+-- src/whole_text.rt:90:9
+add-i : tie.Need-add-i Inv-loop μ-loop
+add-i c = ?
+
+-- src/whole_text.rt:91:13
+feed-requires : tie.Need-feed-requires Inv-loop μ-loop
+feed-requires c κs = ?
+
+-- src/whole_text.rt:93:24
+enum-known-step : tie.Need-enum-known-step Inv-loop μ-loop
+enum-known-step c = ?
+
+-- src/whole_text.rt:88:5
+loop-less : tie.Need-loop-less Inv-loop μ-loop
+loop-less c = ?
+
+-- src/whole_text.rt:88:5
+loop-again : tie.Need-loop-again Inv-loop μ-loop
+loop-again c = ?
+
+-- src/whole_text.rt:96:37
+enum-known-step-2 : tie.Need-enum-known-step-2 Inv-loop μ-loop
+enum-known-step-2 c = ?
+
+-- src/whole_text.rt:97:17
+put-requires : tie.Need-put-requires Inv-loop μ-loop
+put-requires c κs = ?
+
+-- src/whole_text.rt:98:17
+add-place : tie.Need-add-place Inv-loop μ-loop
+add-place c = ?
+
+-- src/whole_text.rt:88:5
+loop-less-2 : tie.Need-loop-less-2 Inv-loop μ-loop
+loop-less-2 c = ?
+
+-- src/whole_text.rt:88:5
+loop-again-2 : tie.Need-loop-again-2 Inv-loop μ-loop
+loop-again-2 c = ?
+
+-- src/whole_text.rt:102:17
+enum-told : tie.Need-enum-told Inv-loop μ-loop
+enum-told c = ?
+
+-- src/whole_text.rt:102:17
+begin-requires-2 : tie.Need-begin-requires-2 Inv-loop μ-loop
+begin-requires-2 c κs = ?
+
+-- src/whole_text.rt:88:5
+loop-less-3 : tie.Need-loop-less-3 Inv-loop μ-loop
+loop-less-3 c = ?
+
+-- src/whole_text.rt:88:5
+loop-again-3 : tie.Need-loop-again-3 Inv-loop μ-loop
+loop-again-3 c = ?
+
+-- src/whole_text.rt:105:17
+enum-told-2 : tie.Need-enum-told-2 Inv-loop μ-loop
+enum-told-2 c = ?
+
+-- src/whole_text.rt:105:17
+same-length : tie.Need-same-length Inv-loop μ-loop
+same-length c = ?
+
+-- src/whole_text.rt:105:17
+returns : tie.Need-returns Inv-loop μ-loop
+returns c = ?
+
+-- src/whole_text.rt:109:9
+feed-requires-2 : tie.Need-feed-requires-2 Inv-loop μ-loop
+feed-requires-2 c κs = ?
+
+-- src/whole_text.rt:111:33
+enum-known-step-3 : tie.Need-enum-known-step-3 Inv-loop μ-loop
+enum-known-step-3 c = ?
+
+-- src/whole_text.rt:111:54
+put-requires-2 : tie.Need-put-requires-2 Inv-loop μ-loop
+put-requires-2 c κs = ?
+
+enum-told-3 : tie.Need-enum-told-3 Inv-loop μ-loop
+enum-told-3 c = ?
+
+enum-told-4 : tie.Need-enum-told-4 Inv-loop μ-loop
+enum-told-4 c = ?
+
+enum-told-5 : tie.Need-enum-told-5 Inv-loop μ-loop
+enum-told-5 c = ?
+
+-- src/whole_text.rt:82:1
+same-length-2 : tie.Need-same-length-2 Inv-loop μ-loop
+same-length-2 c = ?
+
+-- src/whole_text.rt:82:1
+returns-2 : tie.Need-returns-2 Inv-loop μ-loop
+returns-2 c = ?
+
+-- src/whole_text.rt:82:1
+same-length-3 : tie.Need-same-length-3 Inv-loop μ-loop
+same-length-3 c = ?
+
+-- src/whole_text.rt:82:1
+returns-3 : tie.Need-returns-3 Inv-loop μ-loop
+returns-3 c = ?
+
+-- src/whole_text.rt:82:1
+same-length-4 : tie.Need-same-length-4 Inv-loop μ-loop
+same-length-4 c = ?
+
+-- src/whole_text.rt:82:1
+returns-4 : tie.Need-returns-4 Inv-loop μ-loop
+returns-4 c = ?
+
+-- src/whole_text.rt:82:1
+same-length-5 : tie.Need-same-length-5 Inv-loop μ-loop
+same-length-5 c = ?
+
+-- src/whole_text.rt:82:1
+returns-5 : tie.Need-returns-5 Inv-loop μ-loop
+returns-5 c = ?
+
+pub store-text-spec : {M : Type 1} → statement M
+store-text-spec =
+    tie.close
+    (tie.spec
+    Inv-loop
+    μ-loop
+    begin-requires
+    loop-holds
+    shared-slice-read-byte
+    add-i
+    feed-requires
+    enum-known-step
+    loop-less
+    loop-again
+    enum-known-step-2
+    put-requires
+    add-place
+    loop-less-2
+    loop-again-2
+    enum-told
+    begin-requires-2
+    loop-less-3
+    loop-again-3
+    enum-told-2
+    same-length
+    returns
+    feed-requires-2
+    enum-known-step-3
+    put-requires-2
+    enum-told-3
+    enum-told-4
+    enum-told-5
+    same-length-2
+    returns-2
+    same-length-3
+    returns-3
+    same-length-4
+    returns-4
+    same-length-5
+    returns-5)

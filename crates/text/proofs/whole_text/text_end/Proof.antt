@@ -1,0 +1,72 @@
+use borrow.Author.Needs.{needs}
+use Rattle.text.proofs.whole_text.text_end.Statement.{statement}
+use Rattle.text.proofs.whole_text.text_end.Tie as tie
+use Rattle.text.proofs.whole_text.text_end.Reads as reads
+use Rattle.text.proofs.whole_text.text_end.Lts as lts
+use Rattle.text.proofs.feed.Reads as feed-reads
+use Rattle.text.proofs.whole_text.unfinished.Reads as unfinished-reads
+
+-- src/whole_text.rt:37:9
+feed-requires : tie.Need-feed-requires
+feed-requires c κs = search needs
+
+-- src/whole_text.rt:39:57
+enum-told : tie.Need-enum-told
+enum-told c = search needs
+
+-- src/whole_text.rt:40:26
+enum-told-2 : tie.Need-enum-told-2
+enum-told-2 c = search needs
+
+-- src/whole_text.rt:40:26
+unfinished-requires : tie.Need-unfinished-requires
+unfinished-requires c κs = search needs
+
+-- src/whole_text.rt:41:27
+enum-told-3 : tie.Need-enum-told-3
+enum-told-3 c = search needs
+
+-- src/whole_text.rt:41:27
+unfinished-requires-2 : tie.Need-unfinished-requires-2
+unfinished-requires-2 c κs = search needs
+
+-- src/whole_text.rt:42:25
+enum-told-4 : tie.Need-enum-told-4
+enum-told-4 c = search needs
+
+-- src/whole_text.rt:42:25
+unfinished-requires-3 : tie.Need-unfinished-requires-3
+unfinished-requires-3 c κs = search needs
+
+-- src/whole_text.rt:34:1
+returns : tie.Need-returns
+returns c = ?
+
+-- src/whole_text.rt:34:1
+returns-2 : tie.Need-returns-2
+returns-2 c = ?
+
+-- src/whole_text.rt:34:1
+returns-3 : tie.Need-returns-3
+returns-3 c = ?
+
+-- src/whole_text.rt:34:1
+returns-4 : tie.Need-returns-4
+returns-4 c = ?
+
+pub text-end-spec : {M : Type 1} → statement M
+text-end-spec =
+    tie.close
+    (tie.spec
+    feed-requires
+    enum-told
+    enum-told-2
+    unfinished-requires
+    enum-told-3
+    unfinished-requires-2
+    enum-told-4
+    unfinished-requires-3
+    returns
+    returns-2
+    returns-3
+    returns-4)

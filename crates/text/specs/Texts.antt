@@ -1,0 +1,46 @@
+-- Document 01, "The text and the program": the text of records of whole numbers. A text is a list of bytes.
+use Prim.Native.Nat.{ℕ, zero, suc, _+_, _/_, _%_}
+use mathlib.Core.List.{List, [], _∷_, _++_}
+use lib.Dec.{ltb}
+use Rattle.whole.specs.Search.{pick}
+
+abbrev pub LF : ℕ
+LF = 10
+
+abbrev pub CR : ℕ
+CR = 13
+
+abbrev pub COMMA : ℕ
+COMMA = 44
+
+-- the byte of the digit 0; the others follow it
+abbrev pub DIGIT : ℕ
+DIGIT = 48
+
+-- the largest number that a field holds
+abbrev pub LARGEST : ℕ
+LARGEST = 4294967295
+
+-- the most bytes that a record has before its end
+abbrev pub LONGEST : ℕ
+LONGEST = 16384
+
+-- the last k decimal digits of n, or all of them where there are fewer, most significant first, with no leading zero
+unfoldable pub lastDigits : ℕ → ℕ → List ℕ
+lastDigits zero n = []
+lastDigits (suc k) n = pick (ltb n 10) ((DIGIT + n) ∷ []) (lastDigits k (n / 10) ++ (DIGIT + n % 10) ∷ [])
+
+-- the decimal digits of n: there are never more than n + 1
+unfoldable pub digitsOf : ℕ → List ℕ
+digitsOf n = lastDigits (suc n) n
+
+-- the numbers of a record, split by commas
+unfoldable pub recordText : List ℕ → List ℕ
+recordText [] = []
+recordText (n ∷ []) = digitsOf n
+recordText (n ∷ m ∷ rest) = digitsOf n ++ COMMA ∷ recordText (m ∷ rest)
+
+-- records, each with its end
+unfoldable pub textOf : List (List ℕ) → List ℕ
+textOf [] = []
+textOf (row ∷ rest) = recordText row ++ CR ∷ LF ∷ textOf rest
