@@ -1,15 +1,17 @@
 -- The loops that read, byte after byte: what is left to read from here on settles what is read in all. Assumes nothing.
 use Prim.Native.Nat.{ℕ, zero, suc, _+_, _-_, _*_, _≤_, _<_}
 use mathlib.Core.Path.{_≡_, refl, ap, sym, _∙_}
+use mathlib.Core.Bool.{Bool, true, false}
 use mathlib.Core.List.{List, [], _∷_}
 use native.Mathlib.Numerals.{add-one}
 use native.Mathlib.Omega.{arith}
 use lib.ListN.{length, getD, drop, set, length-set, drop-of-length-le}
 use lib.Seq.{drop-cons, sets}
 use Rattle.text.specs.Texts.{CR}
-use Rattle.text.specs.Scans.{begin, feed, ended, lastField}
+use Rattle.text.specs.Scans.{begin, atStart, feed, untouched, ended}
 use Rattle.text.specs.Reads.{readOf, readOn, rowOf, rowOn, rowAtEnd, endOf, textFrom, textOn, numbersFrom, numbersOn, held, numbers}
 use Rattle.text.specs.declared.Scan.{Scan}
+use Rattle.text.specs.declared.Scan.the-variants.{Start, Number, Return}
 use Rattle.text.specs.declared.Step.{Step}
 use Rattle.text.specs.declared.Step.the-variants.{More, Field, Complete, Breaks}
 use Rattle.text.specs.declared.End.{End}
@@ -26,6 +28,23 @@ rest-of bytes i h = rw add-one (drop-cons bytes i 0 h)
 -- a step is what the byte at an index does
 abbrev pub Does : List ℕ → ℕ → Scan → ℕ → Step → Type 0
 Does bytes at scan fields step = step ≡ feed scan (getD bytes at 0) fields
+
+true≢false : _≡_ {A = Bool} true false → ⊥
+true≢false e = let z : _≡_ {A = ℕ} 0 1 = cc in omega arith
+
+-- the text's end is no part of a record where none has begun
+none-begun : (scan : Scan) (fields : ℕ) → untouched scan ≡ true → ended scan fields ≡ Nothing
+unfolding ended feed atStart
+none-begun (Start field bytes) fields e = rw e
+none-begun (Number field bytes value) fields e = absurd (true≢false (sym e))
+none-begun Return fields e = absurd (true≢false (sym e))
+
+begun : (scan : Scan) (fields : ℕ) → (ended scan fields ≡ Nothing → ⊥) → untouched scan ≡ false
+begun scan fields some = by (untouched scan) refl
+  where
+    by : (b : Bool) → untouched scan ≡ b → b ≡ false
+    by true e = absurd (some (none-begun scan fields e))
+    by false e = refl
 
 -- One record.
 
@@ -82,11 +101,12 @@ module _ {chunk : List ℕ} {from : ℕ} {scan₀ : Scan} {row₀ : List ℕ} {a
 pub record Checking (fields : ℕ) (text : List ℕ) (scan : Scan) (records i : ℕ) : Type 0 where
   pub answer : textOn fields records scan (drop i text) ≡ held fields text
   pub fewer : records ≤ i
+  pub inside : untouched scan ≡ false → records < i
   pub reaches : i ≤ length text
 
 pub checks : (fields : ℕ) (text : List ℕ) {scan : Scan} → scan ≡ begin → Checking fields text scan 0 0
 unfolding held
-checks fields text e = rw e (record { answer = refl; fewer = omega arith; reaches = omega arith })
+checks fields text e = rw e (record { answer = refl; fewer = omega arith; inside = λ (never : true ≡ false). absurd (true≢false never); reaches = omega arith })
 
 module _ {fields : ℕ} {text : List ℕ} {scan : Scan} {records i : ℕ} where
   check-byte : Checking fields text scan records i → i < length text → (step : Step) → Does text i scan fields step
@@ -98,19 +118,25 @@ module _ {fields : ℕ} {text : List ℕ} {scan : Scan} {records i : ℕ} where
       → Checking fields text next records (i + 1)
   unfolding textFrom
   check-more {step = step} here h e is =
-      record { answer = rw is at (check-byte here h step e); fewer = omega (arith, here .fewer); reaches = omega arith }
+      record { answer = rw is at (check-byte here h step e); fewer = omega (arith, here .fewer); inside = λ _. omega (arith, here .fewer); reaches = omega arith }
 
   pub check-field : {next : Scan} {step : Step} {field number : ℕ} → Checking fields text scan records i → i < length text → Does text i scan fields step
       → step ≡ Field field number next → Checking fields text next records (i + 1)
   unfolding textFrom
   check-field {step = step} here h e is =
-      record { answer = rw is at (check-byte here h step e); fewer = omega (arith, here .fewer); reaches = omega arith }
+      record { answer = rw is at (check-byte here h step e); fewer = omega (arith, here .fewer); inside = λ _. omega (arith, here .fewer); reaches = omega arith }
 
   pub check-record : {first : Scan} {step : Step} → Checking fields text scan records i → i < length text → Does text i scan fields step → step ≡ Complete → first ≡ begin
       → Checking fields text first (records + 1) (i + 1)
   unfolding textFrom
   check-record {step = step} here h e is at-start =
-      rw at-start (record { answer = rw is at (check-byte here h step e); fewer = omega (arith, here .fewer); reaches = omega arith })
+      rw at-start
+      (record {
+        answer = rw is at (check-byte here h step e);
+        fewer = omega (arith, here .fewer);
+        inside = λ (never : true ≡ false). absurd (true≢false never);
+        reaches = omega arith;
+      })
 
   pub check-breaks : {step : Step} → Checking fields text scan records i → i < length text → Does text i scan fields step → step ≡ Breaks
       → BrokenAt (records + 1) ≡ held fields text
@@ -122,6 +148,10 @@ module _ {fields : ℕ} {text : List ℕ} {scan : Scan} {records i : ℕ} where
   check-ends here h e =
       let none : drop i text ≡ [] = drop-of-length-le text h in
       rw e (rw none at (here .answer))
+
+  -- a record that the text's end completes or breaks has a byte of its own, so its number is at most the text's length
+  pub check-last : {end : End} → Checking fields text scan records i → end ≡ ended scan fields → (end ≡ Nothing → ⊥) → records < length text
+  check-last here e some = omega (arith, here .inside (begun scan fields λ none. some (e ∙ none)), here .reaches)
 
 -- A whole text, stored: with the numbers before this place in the list already.
 

@@ -2,7 +2,7 @@
 use Prim.Native.Nat.{ℕ, zero, suc, _+_, _*_}
 use mathlib.Core.Bool.{Bool}
 use mathlib.Core.List.{List, [], _∷_}
-use lib.Dec.{leb}
+use lib.Dec.{leb, eqb}
 use lib.ListN.{length, drop, set}
 use lib.Seq.{sets}
 use Rattle.whole.specs.Search.{pick}
@@ -96,13 +96,9 @@ stored (Holds n) list into = sets into 0 list
 stored (BrokenAt place) list into = into
 stored TooLong list into = into
 
--- A text of exactly one record: none is missing as record 1, and any after it breaks as record 2.
+-- A text of exactly one record: a missing one breaks as record 1, and anything after it as record 2.
 
 unfoldable pub one : Text → Text
-one (Holds zero) = BrokenAt 1
-one (Holds (suc zero)) = Holds 1
-one (Holds (suc (suc n))) = BrokenAt 2
-one (BrokenAt zero) = BrokenAt 1
-one (BrokenAt (suc zero)) = BrokenAt 1
-one (BrokenAt (suc (suc n))) = BrokenAt 2
+one (Holds n) = pick (eqb n 0) (BrokenAt 1) (pick (eqb n 1) (Holds n) (BrokenAt 2))
+one (BrokenAt place) = pick (leb place 1) (BrokenAt 1) (BrokenAt 2)
 one TooLong = TooLong

@@ -145,7 +145,7 @@ pub(crate) fn one(text: Text) -> Text
                 return Text::BrokenAt(1);
             }
             if records == 1 {
-                Text::Holds(1)
+                Text::Holds(records)
             } else {
                 Text::BrokenAt(2)
             }

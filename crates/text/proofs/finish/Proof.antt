@@ -1,3 +1,7 @@
+use mathlib.Core.Path.{refl}
+use Rattle.text.specs.Reads.{rowOf, rowAtEnd}
+use Rattle.text.specs.Scans.{ended}
+use mathlib.Core.Path.{sym}
 use borrow.Author.Needs.{needs}
 use Rattle.text.proofs.finish.Statement.{statement}
 use Rattle.text.proofs.finish.Tie as tie
@@ -49,19 +53,23 @@ same-length c = search needs
 
 -- src/lib.rt:121:1
 returns : tie.Need-returns
-returns c = ?
+unfolding ended rowOf rowAtEnd
+returns c = rw (sym (c .before .before .before .before .before .before .before .feed .ensures), c .before .before .before .before .before .step .given .1) (refl, c .before .before .put .ensures)
 
 -- src/lib.rt:121:1
 returns-2 : tie.Need-returns-2
-returns-2 c = ?
+unfolding ended rowOf rowAtEnd
+returns-2 c = rw (sym (c .before .before .before .feed .ensures), c .before .enum-told .given .1) (c .unfinished .ensures, refl)
 
 -- src/lib.rt:121:1
 returns-3 : tie.Need-returns-3
-returns-3 c = ?
+unfolding ended rowOf rowAtEnd
+returns-3 c = rw (sym (c .before .before .before .feed .ensures), c .before .enum-told2 .given .1) (c .unfinished2 .ensures, refl)
 
 -- src/lib.rt:121:1
 returns-4 : tie.Need-returns-4
-returns-4 c = ?
+unfolding ended rowOf rowAtEnd
+returns-4 c = rw (sym (c .before .before .before .feed .ensures), c .before .enum-told3 .given .1) (c .unfinished3 .ensures, refl)
 
 pub finish-spec : {M : Type 1} → statement M
 finish-spec =

@@ -1,3 +1,9 @@
+use Rattle.text.specs.Reads.{fit}
+use native.Mathlib.Nat.{le-div-iff-mul-le, div-lt-iff-lt-mul, pos-of-ne-zero}
+use native.Mathlib.Omega.{arith}
+use borrow.Author.Tests.{le-leb, lt-leb}
+use mathlib.Core.Path.{_≡_, sym, _∙_}
+use Prim.Native.Nat.{_*_, _≤_, _<_}
 use borrow.Author.Needs.{needs}
 use Rattle.text.proofs.whole_text.fit.Statement.{statement}
 use Rattle.text.proofs.whole_text.fit.Tie as tie
@@ -10,7 +16,11 @@ enum-known-text c = search needs
 
 -- src/whole_text.rt:107:17
 returns : tie.Need-returns
-returns c = ?
+unfolding fit
+returns c = let n = c .before .before .text .given .0 .0 in
+    let a = c .before .before .before .before .args in
+    let none : n * a .fields ≡ 0 = rw (c .if1 .taken) (omega arith) in
+    rw (c .before .before .text .given .1) (rw (le-leb (n * a .fields) (a .room) (omega arith)))
 
 -- src/whole_text.rt:109:27
 div-if2 : tie.Need-div-if2
@@ -26,19 +36,27 @@ enum-told c = search needs
 
 -- src/whole_text.rt:101:1
 returns-2 : tie.Need-returns-2
-returns-2 c = ?
+unfolding fit
+returns-2 c = let n = c .before .before .before .text .given .0 .0 in
+    let a = c .before .before .before .before .before .args in
+    rw (c .before .before .before .text .given .1) (rw (le-leb (n * a .fields) (a .room) (le-div-iff-mul-le (pos-of-ne-zero (c .before .if1 .left)) .0 (c .if2 .taken))))
 
 -- src/whole_text.rt:101:1
 returns-3 : tie.Need-returns-3
-returns-3 c = ?
+unfolding fit
+returns-3 c = let n = c .before .before .before .text .given .0 .0 in
+    let a = c .before .before .before .before .before .args in
+    rw (c .before .before .before .text .given .1) (rw (lt-leb (n * a .fields) (a .room) (div-lt-iff-lt-mul (pos-of-ne-zero (c .before .if1 .left)) .0 (c .if2 .left))))
 
 -- src/whole_text.rt:101:1
 returns-4 : tie.Need-returns-4
-returns-4 c = ?
+unfolding fit
+returns-4 c = rw (c .before .text2 .given .1)
 
 -- src/whole_text.rt:101:1
 returns-5 : tie.Need-returns-5
-returns-5 c = ?
+unfolding fit
+returns-5 c = rw (c .enum-told .given .1)
 
 pub fit-spec : {M : Type 1} → statement M
 fit-spec =

@@ -1,3 +1,5 @@
+use Rattle.text.specs.Scans.{ended}
+use mathlib.Core.Path.{sym}
 use borrow.Author.Needs.{needs}
 use Rattle.text.proofs.whole_text.text_end.Statement.{statement}
 use Rattle.text.proofs.whole_text.text_end.Tie as tie
@@ -40,19 +42,23 @@ unfinished-requires-3 c κs = search needs
 
 -- src/whole_text.rt:34:1
 returns : tie.Need-returns
-returns c = ?
+unfolding ended
+returns c = rw (sym (c .before .before .feed .ensures), c .enum-told .given .1)
 
 -- src/whole_text.rt:34:1
 returns-2 : tie.Need-returns-2
-returns-2 c = ?
+unfolding ended
+returns-2 c = rw (sym (c .before .before .before .feed .ensures), c .before .enum-told2 .given .1) (c .unfinished .ensures)
 
 -- src/whole_text.rt:34:1
 returns-3 : tie.Need-returns-3
-returns-3 c = ?
+unfolding ended
+returns-3 c = rw (sym (c .before .before .before .feed .ensures), c .before .enum-told3 .given .1) (c .unfinished2 .ensures)
 
 -- src/whole_text.rt:34:1
 returns-4 : tie.Need-returns-4
-returns-4 c = ?
+unfolding ended
+returns-4 c = rw (sym (c .before .before .before .feed .ensures), c .before .enum-told4 .given .1) (c .unfinished3 .ensures)
 
 pub text-end-spec : {M : Type 1} → statement M
 text-end-spec =

@@ -1,3 +1,4 @@
+use borrow.Author.Tests.{ne-eqb}
 use borrow.Author.Needs.{needs}
 use Rattle.text.proofs.whole_text.unfinished.Statement.{statement}
 use Rattle.text.proofs.whole_text.unfinished.Tie as tie
@@ -22,7 +23,7 @@ returns c = search needs
 
 -- src/whole_text.rt:17:1
 returns-2 : tie.Need-returns-2
-returns-2 c = ?
+returns-2 c = rw (c .before .before .scan .given .1) (rw (ne-eqb (c .before .before .scan .given .0 .0) 0 (c .if1 .left)))
 
 -- src/whole_text.rt:17:1
 returns-3 : tie.Need-returns-3
