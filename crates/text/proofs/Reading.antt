@@ -7,6 +7,7 @@ use native.Mathlib.Numerals.{add-one}
 use native.Mathlib.Omega.{arith}
 use lib.ListN.{length, getD, drop, set, length-set, drop-of-length-le}
 use lib.Seq.{drop-cons, sets}
+use Rattle.text.proofs.Stores.{rest-of}
 use Rattle.text.specs.Texts.{CR}
 use Rattle.text.specs.Scans.{begin, atStart, feed, untouched, ended}
 use Rattle.text.specs.Reads.{readOf, readOn, rowOf, rowOn, rowAtEnd, endOf, textFrom, textOn, numbersFrom, numbersOn, held, numbers}
@@ -20,10 +21,6 @@ use Rattle.text.specs.declared.Read.{Read}
 use Rattle.text.specs.declared.Read.the-variants.{Record, Part, Broken}
 use Rattle.text.specs.declared.Text.{Text}
 use Rattle.text.specs.declared.Text.the-variants.{Holds, BrokenAt, TooLong}
-
--- the bytes from an index on: the one there, and those after it
-rest-of : (bytes : List ℕ) (i : ℕ) → i < length bytes → drop i bytes ≡ getD bytes i 0 ∷ drop (i + 1) bytes
-rest-of bytes i h = rw add-one (drop-cons bytes i 0 h)
 
 -- a step is what the byte at an index does
 abbrev pub Does : List ℕ → ℕ → Scan → ℕ → Step → Type 0

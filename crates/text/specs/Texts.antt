@@ -34,13 +34,21 @@ lastDigits (suc k) n = pick (ltb n 10) ((DIGIT + n) ∷ []) (lastDigits k (n / 1
 unfoldable pub digitsOf : ℕ → List ℕ
 digitsOf n = lastDigits (suc n) n
 
+-- numbers after another one: each follows a comma
+unfoldable pub furtherText : List ℕ → List ℕ
+furtherText [] = []
+furtherText (n ∷ rest) = COMMA ∷ digitsOf n ++ furtherText rest
+
 -- the numbers of a record, split by commas
 unfoldable pub recordText : List ℕ → List ℕ
 recordText [] = []
-recordText (n ∷ []) = digitsOf n
-recordText (n ∷ m ∷ rest) = digitsOf n ++ COMMA ∷ recordText (m ∷ rest)
+recordText (n ∷ rest) = digitsOf n ++ furtherText rest
+
+-- a record with its end
+unfoldable pub lineText : List ℕ → List ℕ
+lineText row = recordText row ++ CR ∷ LF ∷ []
 
 -- records, each with its end
 unfoldable pub textOf : List (List ℕ) → List ℕ
 textOf [] = []
-textOf (row ∷ rest) = recordText row ++ CR ∷ LF ∷ textOf rest
+textOf (row ∷ rest) = lineText row ++ textOf rest

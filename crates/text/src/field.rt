@@ -40,7 +40,11 @@ pub(crate) fn at_start(field: usize, bytes: usize, byte: u8) -> Step
     ensures { λ r. ⌜ r ≡ atStart field bytes byte ⌝ }
 {
     if is_digit(byte) & (bytes < 16_384) {
-        Step::More(Scan::Number { field, bytes: bytes + 1, value: (byte - 48) as u32 })
+        Step::More(Scan::Number {
+            field,
+            bytes: bytes + 1,
+            value: (byte - 48) as u32,
+        })
     } else {
         Step::Breaks
     }
@@ -53,7 +57,11 @@ fn longer(field: usize, bytes: usize, value: u32, digit: u8) -> Step
 {
     let number = (value as u64) * 10 + (digit as u64);
     if (value != 0) & (number <= 4_294_967_295) & (bytes < 16_384) {
-        Step::More(Scan::Number { field, bytes: bytes + 1, value: number as u32 })
+        Step::More(Scan::Number {
+            field,
+            bytes: bytes + 1,
+            value: number as u32,
+        })
     } else {
         Step::Breaks
     }
@@ -67,10 +75,21 @@ pub(crate) fn in_number(field: usize, bytes: usize, value: u32, byte: u8, fields
         return longer(field, bytes, value, byte - 48);
     }
     if (byte == 44) & followed(field, fields) & (bytes < 16_384) {
-        return Step::Field { field, number: value, next: Scan::Start { field: field + 1, bytes: bytes + 1 } };
+        return Step::Field {
+            field,
+            number: value,
+            next: Scan::Start {
+                field: field + 1,
+                bytes: bytes + 1,
+            },
+        };
     }
     if (byte == 13) & is_last(field, fields) {
-        return Step::Field { field, number: value, next: Scan::Return };
+        return Step::Field {
+            field,
+            number: value,
+            next: Scan::Return,
+        };
     }
     Step::Breaks
 }

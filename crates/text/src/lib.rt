@@ -3,20 +3,40 @@
 ghost use mathlib.Core.Path.{_≡_};
 ghost use lib.ListN.{length, drop};
 ghost use Rattle.text.specs.Scans.{begin, feed, ended};
+ghost use Rattle.text.specs.Texts.{digitsOf, lineText};
+ghost use Rattle.text.specs.Writes.{written, afterWriting};
 ghost use Rattle.text.specs.Reads.{readOn, rowOn, rowAtEnd, held, numbers, fit, stored, one};
 
+mod decimal;
 mod field;
 mod whole_text;
 
-use field::{at_start, in_number, put};
-use whole_text::{check_text, fit, one, store_text, unfinished};
+use decimal::fits;
+use decimal::line_fits;
+use decimal::put_digits;
+use decimal::put_line;
+use field::at_start;
+use field::in_number;
+use field::put;
+use whole_text::check_text;
+use whole_text::fit;
+use whole_text::one;
+use whole_text::store_text;
+use whole_text::unfinished;
 
 // Where the reading stands inside a record: `field` of its fields are complete, and `bytes` of its bytes are read.
 pub enum Scan {
     // No digit of the next field is read yet.
-    Start { field: usize, bytes: usize },
+    Start {
+        field: usize,
+        bytes: usize,
+    },
     // The digits of a field so far make `value`.
-    Number { field: usize, bytes: usize, value: u32 },
+    Number {
+        field: usize,
+        bytes: usize,
+        value: u32,
+    },
     // The last field is complete, and the CR after it is read.
     Return,
 }
@@ -25,7 +45,11 @@ pub enum Scan {
 pub enum Step {
     More(Scan),
     // The field of this index is complete.
-    Field { field: usize, number: u32, next: Scan },
+    Field {
+        field: usize,
+        number: u32,
+        next: Scan,
+    },
     // The record is complete.
     Complete,
     // The record breaks a rule.
@@ -62,6 +86,14 @@ pub enum Text {
     TooLong,
 }
 
+// Where writing into a buffer ended.
+pub enum Written {
+    // The position after the last byte written.
+    To(usize),
+    // The bytes do not fit, and none is written.
+    NoRoom,
+}
+
 // Where a record's reading begins.
 pub fn begin() -> Scan
     ensures { λ r. ⌜ r ≡ begin ⌝ }
@@ -74,7 +106,11 @@ pub fn feed(scan: Scan, byte: u8, fields: usize) -> Step
     ensures { λ r. ⌜ r ≡ feed scan byte fields ⌝ }
 {
     match scan {
-        Scan::Number { field, bytes, value } => in_number(field, bytes, value, byte, fields),
+        Scan::Number {
+            field,
+            bytes,
+            value,
+        } => in_number(field, bytes, value, byte, fields),
         Scan::Start { field, bytes } => at_start(field, bytes, byte),
         Scan::Return => {
             if byte == 10 {
@@ -102,7 +138,11 @@ pub fn read_record(chunk: &[u8], from: usize, scan: Scan, row: &mut [u32]) -> Re
             Step::More(next) => {
                 scan = next;
             }
-            Step::Field { field, number, next } => {
+            Step::Field {
+                field,
+                number,
+                next,
+            } => {
                 put(row, field, number);
                 scan = next;
             }
@@ -124,7 +164,11 @@ pub fn finish(scan: Scan, row: &mut [u32]) -> End
 {
     let step = feed(scan, 13, row.len());
     match step {
-        Step::Field { field, number, next: _ } => {
+        Step::Field {
+            field,
+            number,
+            next: _,
+        } => {
             put(row, field, number);
             End::Last
         }
@@ -163,5 +207,29 @@ pub fn read_one(text: &[u8], row: &mut [u32]) -> Text
         }
         Text::BrokenAt(record) => Text::BrokenAt(record),
         Text::TooLong => Text::TooLong,
+    }
+}
+
+// Writes the decimal digits of a number into a buffer from a position on, most significant first.
+pub fn write_decimal(number: u64, buffer: &mut [u8], at: usize) -> Written
+    ensures answer { λ r. ⌜ r ≡ written (now (buffer .entry)) at (digitsOf number) ⌝ }
+    ensures stores { λ _. ⌜ now (buffer .exit) ≡ afterWriting (now (buffer .entry)) at (digitsOf number) ⌝ }
+{
+    if fits(number, buffer.len(), at) {
+        Written::To(put_digits(number, buffer, at))
+    } else {
+        Written::NoRoom
+    }
+}
+
+// Writes a record of numbers with its end into a buffer from a position on.
+pub fn write_record(numbers: &[u64], buffer: &mut [u8], at: usize) -> Written
+    ensures answer { λ r. ⌜ r ≡ written (now (buffer .entry)) at (lineText (now (numbers .entry))) ⌝ }
+    ensures stores { λ _. ⌜ now (buffer .exit) ≡ afterWriting (now (buffer .entry)) at (lineText (now (numbers .entry))) ⌝ }
+{
+    if line_fits(numbers, buffer.len(), at) {
+        Written::To(put_line(numbers, buffer, at))
+    } else {
+        Written::NoRoom
     }
 }

@@ -18,14 +18,12 @@ pub(crate) fn unfinished(scan: Scan) -> End
     ensures { λ r. ⌜ r ≡ pick (untouched scan) End.Nothing End.Cut ⌝ }
 {
     match scan {
-        Scan::Start { field, bytes: _ } => {
-            if field == 0 {
-                End::Nothing
-            } else {
-                End::Cut
-            }
-        }
-        Scan::Number { field: _, bytes: _, value: _ } => End::Cut,
+        Scan::Start { field, bytes: _ } => { if field == 0 { End::Nothing } else { End::Cut } }
+        Scan::Number {
+            field: _,
+            bytes: _,
+            value: _,
+        } => End::Cut,
         Scan::Return => End::Cut,
     }
 }
@@ -36,7 +34,11 @@ fn text_end(scan: Scan, fields: usize) -> End
 {
     let step = feed(scan, 13, fields);
     match step {
-        Step::Field { field: _, number: _, next: _ } => End::Last,
+        Step::Field {
+            field: _,
+            number: _,
+            next: _,
+        } => End::Last,
         Step::More(_) => unfinished(scan),
         Step::Complete => unfinished(scan),
         Step::Breaks => unfinished(scan),
@@ -58,7 +60,11 @@ pub(crate) fn check_text(text: &[u8], fields: usize) -> Text
             Step::More(next) => {
                 scan = next;
             }
-            Step::Field { field: _, number: _, next } => {
+            Step::Field {
+                field: _,
+                number: _,
+                next,
+            } => {
                 scan = next;
             }
             Step::Complete => {
@@ -93,7 +99,11 @@ pub(crate) fn store_text(text: &[u8], fields: usize, list: &mut [u32])
             Step::More(next) => {
                 scan = next;
             }
-            Step::Field { field: _, number, next } => {
+            Step::Field {
+                field: _,
+                number,
+                next,
+            } => {
                 put(list, place, number);
                 place += 1;
                 scan = next;
@@ -108,7 +118,11 @@ pub(crate) fn store_text(text: &[u8], fields: usize, list: &mut [u32])
     }
     let step = feed(scan, 13, fields);
     match step {
-        Step::Field { field: _, number, next: _ } => put(list, place, number),
+        Step::Field {
+            field: _,
+            number,
+            next: _,
+        } => put(list, place, number),
         Step::More(_) => {}
         Step::Complete => {}
         Step::Breaks => {}

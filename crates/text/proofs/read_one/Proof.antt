@@ -39,17 +39,19 @@ same-length c = search needs
 
 -- src/lib.rt:154:1
 returns : tie.Need-returns
-returns c = ( sym (c .before .before .before .before .before .found .given .1) ∙ c .before .before .before .before .before .before .before .one .ensures
-      ∙ ap one (c .before .before .before .before .before .before .before .before .check-text .ensures)
-    , c .before .before .store-text .ensures )
+returns c = (
+  sym (c .before .before .before .before .before .found .given .1) ∙ c .before .before .before .before .before .before .before .one .ensures
+      ∙ ap one (c .before .before .before .before .before .before .before .before .check-text .ensures),
+  c .before .before .store-text .ensures,
+)
 
 -- src/lib.rt:154:1
 returns-2 : tie.Need-returns-2
-returns-2 c = ( sym (c .before .found2 .given .1) ∙ c .before .before .before .one .ensures ∙ ap one (c .before .before .before .before .check-text .ensures), refl )
+returns-2 c = (sym (c .before .found2 .given .1) ∙ c .before .before .before .one .ensures ∙ ap one (c .before .before .before .before .check-text .ensures), refl)
 
 -- src/lib.rt:154:1
 returns-3 : tie.Need-returns-3
-returns-3 c = ( sym (c .enum-told .given .1) ∙ c .before .before .one .ensures ∙ ap one (c .before .before .before .check-text .ensures), refl )
+returns-3 c = (sym (c .enum-told .given .1) ∙ c .before .before .one .ensures ∙ ap one (c .before .before .before .check-text .ensures), refl)
 
 pub read-one-spec : {M : Type 1} → statement M
 read-one-spec =

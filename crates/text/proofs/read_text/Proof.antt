@@ -40,20 +40,21 @@ same-length c = search needs
 
 -- src/lib.rt:138:1
 returns : tie.Need-returns
-returns c = let a = c .before .before .before .before .before .before .before .before .before .before .before .args in
-    ( sym (c .before .before .before .before .before .found .given .1) ∙ c .before .before .before .before .before .before .before .fit .ensures
-      ∙ ap (fit (a .fields) (length (a .list .now))) (c .before .before .before .before .before .before .before .before .check-text .ensures)
-    , c .before .before .store-text .ensures )
+returns c = let a = c .before .before .before .before .before .before .before .before .before .before .before .args in (
+  sym (c .before .before .before .before .before .found .given .1) ∙ c .before .before .before .before .before .before .before .fit .ensures
+      ∙ ap (fit (a .fields) (length (a .list .now))) (c .before .before .before .before .before .before .before .before .check-text .ensures),
+  c .before .before .store-text .ensures,
+)
 
 -- src/lib.rt:138:1
 returns-2 : tie.Need-returns-2
 returns-2 c = let a = c .before .before .before .before .before .before .before .args in
-    ( sym (c .before .found2 .given .1) ∙ c .before .before .before .fit .ensures ∙ ap (fit (a .fields) (length (a .list .now))) (c .before .before .before .before .check-text .ensures), refl )
+    (sym (c .before .found2 .given .1) ∙ c .before .before .before .fit .ensures ∙ ap (fit (a .fields) (length (a .list .now))) (c .before .before .before .before .check-text .ensures), refl)
 
 -- src/lib.rt:138:1
 returns-3 : tie.Need-returns-3
 returns-3 c = let a = c .before .before .before .before .before .before .args in
-    ( sym (c .enum-told .given .1) ∙ c .before .before .fit .ensures ∙ ap (fit (a .fields) (length (a .list .now))) (c .before .before .before .check-text .ensures), refl )
+    (sym (c .enum-told .given .1) ∙ c .before .before .fit .ensures ∙ ap (fit (a .fields) (length (a .list .now))) (c .before .before .before .check-text .ensures), refl)
 
 pub read-text-spec : {M : Type 1} → statement M
 read-text-spec =

@@ -1,6 +1,6 @@
 use lib.Dec.{ltb, leb}
 use Rattle.text.specs.Scans.{isDigit, atStart}
-use Rattle.text.proofs.Tests.{both, picks, passes-by}
+use Rattle.text.proofs.Tests.{both}
 use native.Mathlib.Omega.{arith}
 use borrow.Author.Tests.{ltb-true, leb-true}
 use mathlib.Core.Bool.{Bool}
