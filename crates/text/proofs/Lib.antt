@@ -2,4 +2,6 @@ pub mod Tests
 pub mod Stores
 pub mod Digits
 pub mod Lines
+pub mod Fed
 pub mod Reading
+pub mod ReadBack
