@@ -5,3 +5,4 @@ pub mod Lines
 pub mod Fed
 pub mod Reading
 pub mod ReadBack
+pub mod Accepted

@@ -12,7 +12,7 @@ use lib.ListN.{length, set, take, drop, length-append}
 use lib.Seq.{sets, sets-eq, drop-length}
 use Rattle.text.proofs.Digits.{one-digit, more-digits}
 use Rattle.text.proofs.Fed.{feeds-first, feeds-next, feeds-comma, feeds-return, feeds-line}
-use Rattle.text.specs.Texts.{LF, CR, COMMA, DIGIT, LARGEST, LONGEST, digitsOf, furtherText, recordText, lineText, textOf, Small, none, and, Fits, AllFit, none-left, and-then, TextOf, ended, left-open}
+use Rattle.text.specs.Texts.{LF, CR, COMMA, DIGIT, LARGEST, LONGEST, digitsOf, furtherText, recordText, lineText, textOf, Small, none, and, Fits, AllFit, none-left, and-then, TextOf, ended, left-open, together}
 use Rattle.text.specs.Scans.{begin, feed}
 use Rattle.text.specs.Scans as scans
 use Rattle.text.specs.Reads.{readOf, readOn, rowOf, rowOn, rowAtEnd, endOf, textFrom, textOn, numbersFrom, numbersOn, held, numbers}
@@ -222,11 +222,7 @@ open-reads-back fields at list row fits same =
 
 -- A whole text, each record with its end, and then more.
 
-pub together : List (List ℕ) → List ℕ
-together [] = []
-together (row ∷ rest) = row ++ together rest
-
-text-after : (fields n : ℕ) (list rest : List ℕ) → Fits fields list → textOn fields n begin (lineText list ++ rest) ≡ textOn fields (n + 1) begin rest
+pub text-after : (fields n : ℕ) (list rest : List ℕ) → Fits fields list → textOn fields n begin (lineText list ++ rest) ≡ textOn fields (n + 1) begin rest
 unfolding textOn textFrom
 text-after fields n list rest fits =
     let to = record-reaches fields list [] fits in
@@ -258,10 +254,10 @@ numbers-of-texts fields (row ∷ rows) rest (and-then fits fit) =
 
 -- The text of records that fit, the last end optional, holds those records, and its numbers are theirs.
 
-one-more : (rows : List (List ℕ)) (row : List ℕ) → length (rows ++ row ∷ []) ≡ length rows + 1
+pub one-more : (rows : List (List ℕ)) (row : List ℕ) → length (rows ++ row ∷ []) ≡ length rows + 1
 one-more rows row = length-append rows (row ∷ [])
 
-together-one-more : (rows : List (List ℕ)) (row : List ℕ) → together (rows ++ row ∷ []) ≡ together rows ++ row
+pub together-one-more : (rows : List (List ℕ)) (row : List ℕ) → together (rows ++ row ∷ []) ≡ together rows ++ row
 unfolding together
 together-one-more [] row = append-nil row
 together-one-more (first ∷ rows) row = ap (λ (l : List ℕ). first ++ l) (together-one-more rows row) ∙ sym (append-assoc first (together rows) row)

@@ -55,6 +55,11 @@ unfoldable pub textOf : List (List ℕ) → List ℕ
 textOf [] = []
 textOf (row ∷ rest) = lineText row ++ textOf rest
 
+-- the numbers of records, one after the other
+unfoldable pub together : List (List ℕ) → List ℕ
+together [] = []
+together (row ∷ rest) = row ++ together rest
+
 -- each number is one that a field holds
 pub data Small : List ℕ → Type 0 where
   none : Small []
