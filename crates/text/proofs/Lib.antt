@@ -4,5 +4,6 @@ pub mod Digits
 pub mod Lines
 pub mod Fed
 pub mod Reading
+pub mod Pieces
 pub mod ReadBack
 pub mod Accepted
