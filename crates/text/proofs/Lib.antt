@@ -7,3 +7,4 @@ pub mod Reading
 pub mod Pieces
 pub mod ReadBack
 pub mod Accepted
+pub mod Settled
