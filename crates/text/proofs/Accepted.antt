@@ -3,6 +3,7 @@ use Prim.Native.Nat.{ℕ, zero, suc, _+_, _-_, _*_, _/_, _%_, _≤_, _<_, zero-l
 use mathlib.Core.Path.{_≡_, refl, ap, sym, subst, _∙_}
 use mathlib.Core.Bool.{Bool, true, false}
 use mathlib.Core.List.{List, [], _∷_, _++_, append-assoc, append-nil}
+use native.Mathlib.Nat.{suc-mul}
 use native.Mathlib.Omega.{arith}
 use borrow.Author.Tests.{ne-eqb}
 use lib.ListN.{length, length-append}
@@ -24,7 +25,7 @@ use Rattle.text.specs.declared.Text.{Text}
 use Rattle.text.specs.declared.Text.the-variants.{Holds, BrokenAt, TooLong}
 
 -- numbers that each have a comma after them
-pub startText : List ℕ → List ℕ
+unfoldable pub startText : List ℕ → List ℕ
 startText [] = []
 startText (n ∷ rest) = digitsOf n ++ COMMA ∷ startText rest
 
@@ -42,7 +43,7 @@ further-and (n ∷ ns) v =
     ap (λ (l : List ℕ). COMMA ∷ digitsOf n ++ l) (further-and ns v)
     ∙ ap (λ (l : List ℕ). COMMA ∷ l) (sym (append-assoc (digitsOf n) (COMMA ∷ startText ns) (digitsOf v)))
 
-record-and : (ns : List ℕ) (v : ℕ) → recordText (ns ++ v ∷ []) ≡ startText ns ++ digitsOf v
+pub record-and : (ns : List ℕ) (v : ℕ) → recordText (ns ++ v ∷ []) ≡ startText ns ++ digitsOf v
 unfolding recordText startText furtherText
 record-and [] v = append-nil (digitsOf v)
 record-and (n ∷ ns) v =
@@ -65,7 +66,7 @@ pub data SoFar (fields : ℕ) : Scan → List ℕ → List ℕ → Type 0 where
       → SoFar fields (Number f y v) pre ns
   at-return : {pre row : List ℕ} → pre ≡ recordText row ++ CR ∷ [] → Fits fields row → SoFar fields Return pre row
 
-pub After : ℕ → Step → List ℕ → ℕ → List ℕ → Type 0
+unfoldable pub After : ℕ → Step → List ℕ → ℕ → List ℕ → Type 0
 After fields (More t) pre b ns = SoFar fields t (pre ++ b ∷ []) ns
 After fields (Field f v t) pre b ns = SoFar fields t (pre ++ b ∷ []) (ns ++ v ∷ [])
 After fields Complete pre b ns = (pre ++ b ∷ [] ≡ lineText ns) × Fits fields ns
@@ -75,7 +76,7 @@ longer-by-one : (pre : List ℕ) (b : ℕ) → length (pre ++ b ∷ []) ≡ leng
 longer-by-one pre b = length-append pre (b ∷ [])
 
 -- a last field makes a record that fits
-closes : {fields f y v : ℕ} {pre ns : List ℕ} → pre ≡ startText ns ++ digitsOf v → f ≡ length ns → y ≡ length pre → y ≤ LONGEST → v ≤ LARGEST → Small ns
+pub closes : {fields f y v : ℕ} {pre ns : List ℕ} → pre ≡ startText ns ++ digitsOf v → f ≡ length ns → y ≡ length pre → y ≤ LONGEST → v ≤ LARGEST → Small ns
     → f + 1 ≡ fields → Fits fields (ns ++ v ∷ [])
 closes {v = v} {ns = ns} is count size short fits small last =
     record {
@@ -85,7 +86,7 @@ closes {v = v} {ns = ns} is count size short fits small last =
       short = rw (record-and ns v) (rw (sym is) (omega arith));
     }
 
-one-byte-on : {fields : ℕ} {s : Scan} {pre ns : List ℕ} {b : ℕ} {step : Step} → SoFar fields s pre ns → Fed fields s b step → After fields step pre b ns
+pub one-byte-on : {fields : ℕ} {s : Scan} {pre ns : List ℕ} {b : ℕ} {step : Step} → SoFar fields s pre ns → Fed fields s b step → After fields step pre b ns
 unfolding After lineText
 one-byte-on {fields} {pre = pre} {ns = ns} {b = b} (at-start {f} {y} is count size short small) (first-digit low high room) = on
   where
@@ -174,7 +175,7 @@ at-end fields n (Number f y v) pre ns (in-number is count size short fits small)
         stops parts = rw e at parts
 at-end fields n Return pre row (at-return is fits) leads = breaks-here n pre [] _ Return leads λ k. refl
 
-nothing-yet : (fields : ℕ) → SoFar fields begin [] []
+pub nothing-yet : (fields : ℕ) → SoFar fields begin [] []
 unfolding startText
 nothing-yet fields = at-start {f = 0} {y = 0} {pre = []} {ns = []} refl refl refl zero-le none
 
@@ -319,3 +320,15 @@ refused fields text place breaks-at = by (every-text fields text)
               not-last = λ row fits is. not-broken (sym (open-text fields 0 row fits) ∙ ap (held fields) (sym is) ∙ first);
               not-first = λ row more fits is. omega (arith, breaks-later fields 1 1 begin more (sym (text-after fields 0 row more fits) ∙ ap (held fields) (sym is) ∙ first));
             }
+
+-- records that fit have as many numbers as fields
+pub numbers-in-all : (fields : ℕ) (rows : List (List ℕ)) → AllFit fields rows → length (together rows) ≡ length rows * fields
+unfolding together
+numbers-in-all fields [] none-left = omega arith
+numbers-in-all fields (row ∷ rows) (and-then fits fit) =
+    length-append row (together rows) ∙ (rw (fits .count, numbers-in-all fields rows fit) (omega (arith, suc-mul (length rows) fields)))
+
+pub accepted-count : (fields : ℕ) (text : List ℕ) (n : ℕ) → held fields text ≡ Holds n → length (numbers fields text) ≡ n * fields
+accepted-count fields text n holds =
+    let its = accepted fields text n holds in
+    ap length (its .read) ∙ numbers-in-all fields (its .rows) (its .fit) ∙ ap (λ (k : ℕ). k * fields) (sym (its .count))
