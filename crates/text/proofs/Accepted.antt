@@ -1,7 +1,6 @@
 -- What is accepted is the text of what was read, and the record that is refused is the first that breaks. Assumes nothing.
-use Prim.Native.Nat.{ℕ, zero, suc, _+_, _-_, _*_, _/_, _%_, _≤_, _<_, zero-le, suc-le-suc}
+use Prim.Native.Nat.{ℕ, suc, _+_, _-_, _*_, _/_, _%_, _≤_, _<_, zero-le}
 use mathlib.Core.Path.{_≡_, refl, ap, sym, subst, _∙_}
-use mathlib.Core.Bool.{Bool, true, false}
 use mathlib.Core.List.{List, [], _∷_, _++_, append-assoc, append-nil}
 use native.Mathlib.Nat.{suc-mul}
 use native.Mathlib.Omega.{arith}
@@ -22,7 +21,7 @@ use Rattle.text.specs.declared.Step.the-variants.{More, Field, Complete,
 use Rattle.text.specs.declared.End.{End}
 use Rattle.text.specs.declared.End.the-variants.{Nothing, Last, Cut}
 use Rattle.text.specs.declared.Text.{Text}
-use Rattle.text.specs.declared.Text.the-variants.{Holds, BrokenAt, TooLong}
+use Rattle.text.specs.declared.Text.the-variants.{Holds, BrokenAt}
 
 -- numbers that each have a comma after them
 unfoldable pub startText : List ℕ → List ℕ

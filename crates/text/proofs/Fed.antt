@@ -1,9 +1,9 @@
 -- What a byte does, by cases, both ways: each case from the byte, and the byte from each case. Assumes nothing.
-use Prim.Native.Nat.{ℕ, zero, suc, _+_, _-_, _*_, _≤_, _<_}
-use mathlib.Core.Path.{_≡_, refl, ap, sym, _∙_}
+use Prim.Native.Nat.{ℕ, _+_, _-_, _*_, _≤_, _<_}
+use mathlib.Core.Path.{_≡_, refl, ap}
 use mathlib.Core.Bool.{Bool, true, false, _&&_, not}
 use native.Mathlib.Omega.{arith}
-use borrow.Author.Tests.{lt-ltb, le-ltb, le-leb, lt-leb, eq-eqb, ne-eqb, ltb-true, leb-true, eqb-true, eqb-false, not-true}
+use borrow.Author.Tests.{lt-ltb, le-leb, eq-eqb, ne-eqb, ltb-true, leb-true, eqb-true, eqb-false, not-true}
 use lib.Dec.{leb, ltb, eqb}
 use Rattle.whole.specs.Search.{pick}
 use Rattle.text.proofs.Tests.{both}

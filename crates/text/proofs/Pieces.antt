@@ -1,6 +1,6 @@
 -- A text that comes in pieces of any size is read as it would be whole. Assumes nothing.
-use Prim.Native.Nat.{ℕ, zero, suc, _+_, _-_, _≤_, _<_}
-use mathlib.Core.Path.{_≡_, refl, ap, sym, _∙_}
+use Prim.Native.Nat.{ℕ, zero, suc, _+_, _-_, _<_}
+use mathlib.Core.Path.{_≡_, refl, ap, _∙_}
 use mathlib.Core.List.{List, [], _∷_, _++_}
 use native.Mathlib.Omega.{arith}
 use lib.ListN.{length, set, drop}
@@ -12,7 +12,7 @@ use Rattle.text.specs.declared.Step.the-variants.{More, Field, Complete,
 use Rattle.text.specs.declared.Read.{Read}
 use Rattle.text.specs.declared.Read.the-variants.{Record, Part, Broken}
 use Rattle.text.specs.declared.Text.{Text}
-use Rattle.text.specs.declared.Text.the-variants.{Holds, BrokenAt, TooLong}
+use Rattle.text.specs.declared.Text.the-variants.{BrokenAt}
 
 -- a chunk that is used up is followed by the next, from where the reading stands; a record that is complete or broken is not
 unfoldable pub nextRead : ℕ → ℕ → Read → List ℕ → Read

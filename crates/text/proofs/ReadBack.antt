@@ -1,5 +1,5 @@
 -- The text of numbers reads back as those numbers. Assumes nothing.
-use Prim.Native.Nat.{ℕ, zero, suc, _+_, _-_, _*_, _/_, _%_, _≤_, _<_, zero-le, suc-le-suc}
+use Prim.Native.Nat.{ℕ, zero, suc, _+_, _*_, _/_, _%_, _≤_, _<_}
 use mathlib.Core.Path.{_≡_, refl, ap, sym, subst⁻¹, _∙_}
 use mathlib.Core.Bool.{Bool, true, false}
 use mathlib.Core.List.{List, [], _∷_, _++_, append-assoc, append-nil}
@@ -8,23 +8,20 @@ use native.Mathlib.Numerals.{add-one}
 use native.Mathlib.Omega.{arith}
 use borrow.Author.Tests.{ltb-true, ltb-false}
 use lib.Dec.{ltb}
-use lib.ListN.{length, set, take, drop, length-append}
+use lib.ListN.{length, set, length-append}
 use lib.Seq.{sets, sets-eq, drop-length}
 use Rattle.text.proofs.Digits.{one-digit, more-digits}
 use Rattle.text.proofs.Fed.{feeds-first, feeds-next, feeds-comma, feeds-return, feeds-line}
-use Rattle.text.specs.Texts.{LF, CR, COMMA, DIGIT, LARGEST, LONGEST, digitsOf, furtherText, recordText, lineText, textOf, Small, none, and, Fits, AllFit, none-left, and-then, TextOf, ended, left-open, together}
+use Rattle.text.specs.Texts.{LF, CR, DIGIT, LARGEST, LONGEST, digitsOf, furtherText, recordText, lineText, textOf, Small, none, and, Fits, AllFit, none-left, and-then, TextOf, ended, left-open, together}
 use Rattle.text.specs.Scans.{begin, feed}
 use Rattle.text.specs.Scans as scans
-use Rattle.text.specs.Reads.{readOf, readOn, rowOf, rowOn, rowAtEnd, endOf, textFrom, textOn, numbersFrom, numbersOn, held, numbers}
+use Rattle.text.specs.Reads.{readOf, readOn, rowOf, rowOn, rowAtEnd, textFrom, textOn, numbersFrom, numbersOn, held, numbers}
 use Rattle.text.specs.declared.Scan.{Scan}
 use Rattle.text.specs.declared.Scan.the-variants.{Start, Number, Return}
-use Rattle.text.specs.declared.Step.{Step}
-use Rattle.text.specs.declared.Step.the-variants.{More, Field, Complete, Breaks}
-use Rattle.text.specs.declared.End.the-variants.{Nothing, Last, Cut}
-use Rattle.text.specs.declared.Read.{Read}
-use Rattle.text.specs.declared.Read.the-variants.{Record, Part, Broken}
-use Rattle.text.specs.declared.Text.{Text}
-use Rattle.text.specs.declared.Text.the-variants.{Holds, BrokenAt, TooLong}
+use Rattle.text.specs.declared.Step.the-variants.{More, Field}
+use Rattle.text.specs.declared.End.the-variants.{Last}
+use Rattle.text.specs.declared.Read.the-variants.{Record, Part}
+use Rattle.text.specs.declared.Text.the-variants.{Holds}
 
 -- Bytes inside a record lead from one place of it to another, past these numbers, which go to the row.
 pub data Goes (fields : ℕ) : Scan → List ℕ → List ℕ → List ℕ → Scan → List ℕ → Type 0 where

@@ -1,26 +1,24 @@
 -- The loops that read, byte after byte: what is left to read from here on settles what is read in all. Assumes nothing.
-use Prim.Native.Nat.{ℕ, zero, suc, _+_, _-_, _*_, _≤_, _<_}
-use mathlib.Core.Path.{_≡_, refl, ap, sym, _∙_}
+use Prim.Native.Nat.{ℕ, _+_, _≤_, _<_}
+use mathlib.Core.Path.{_≡_, refl, sym, _∙_}
 use mathlib.Core.Bool.{Bool, true, false}
-use mathlib.Core.List.{List, [], _∷_}
+use mathlib.Core.List.{List, []}
 use native.Mathlib.Numerals.{add-one}
 use native.Mathlib.Omega.{arith}
 use lib.ListN.{length, getD, drop, set, length-set, drop-of-length-le}
-use lib.Seq.{drop-cons, sets}
+use lib.Seq.{sets}
 use Rattle.text.proofs.Stores.{rest-of}
 use Rattle.text.specs.Texts.{CR}
 use Rattle.text.specs.Scans.{begin, atStart, feed, untouched, ended}
-use Rattle.text.specs.Reads.{readOf, readOn, rowOf, rowOn, rowAtEnd, endOf, textFrom, textOn, numbersFrom, numbersOn, held, numbers}
+use Rattle.text.specs.Reads.{readOf, readOn, rowOf, rowOn, endOf, textFrom, textOn, numbersFrom, numbersOn, held, numbers}
 use Rattle.text.specs.declared.Scan.{Scan}
 use Rattle.text.specs.declared.Scan.the-variants.{Start, Number, Return}
 use Rattle.text.specs.declared.Step.{Step}
 use Rattle.text.specs.declared.Step.the-variants.{More, Field, Complete, Breaks}
 use Rattle.text.specs.declared.End.{End}
-use Rattle.text.specs.declared.End.the-variants.{Nothing, Last, Cut}
-use Rattle.text.specs.declared.Read.{Read}
+use Rattle.text.specs.declared.End.the-variants.{Nothing}
 use Rattle.text.specs.declared.Read.the-variants.{Record, Part, Broken}
-use Rattle.text.specs.declared.Text.{Text}
-use Rattle.text.specs.declared.Text.the-variants.{Holds, BrokenAt, TooLong}
+use Rattle.text.specs.declared.Text.the-variants.{BrokenAt}
 
 -- a step is what the byte at an index does
 abbrev pub Does : List ℕ → ℕ → Scan → ℕ → Step → Type 0

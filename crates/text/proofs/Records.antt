@@ -1,7 +1,7 @@
 -- One record that is read by itself: what is found complete is the line of a record that fits, and the row then holds that
 -- record; what the text's end completes is the text of one. Assumes nothing.
-use Prim.Native.Nat.{ℕ, zero, suc, _+_, _≤_, _<_}
-use mathlib.Core.Path.{_≡_, refl, ap, sym, subst, _∙_}
+use Prim.Native.Nat.{ℕ, _+_}
+use mathlib.Core.Path.{_≡_, ap, sym, _∙_}
 use mathlib.Core.Bool.{Bool, true, false}
 use mathlib.Core.List.{List, [], _∷_, _++_, append-assoc, append-nil}
 use native.Mathlib.Omega.{arith}
@@ -10,19 +10,17 @@ use lib.Dec.{eqb}
 use lib.ListN.{length, length-append}
 use Rattle.whole.specs.Search.{pick}
 use Rattle.text.proofs.Fed.{Fed, next-digit, comma, return, breaks, fed}
-use Rattle.text.proofs.ReadBack.{row-reads-back, open-reads-back}
+use Rattle.text.proofs.ReadBack.{row-reads-back}
 use Rattle.text.proofs.Accepted.{SoFar, at-start, in-number, at-return, After, one-byte-on, nothing-yet, closes, record-and, startText}
-use Rattle.text.specs.Texts.{CR, COMMA, recordText, lineText, Fits}
+use Rattle.text.specs.Texts.{CR, recordText, lineText, Fits}
 use Rattle.text.specs.Scans.{begin, feed, ended}
 use Rattle.text.specs.Scans as scans
-use Rattle.text.specs.Reads.{readOf, readOn, rowOn, rowAtEnd}
+use Rattle.text.specs.Reads.{readOf, readOn, rowOn}
 use Rattle.text.specs.declared.Scan.{Scan}
 use Rattle.text.specs.declared.Scan.the-variants.{Start, Number, Return}
 use Rattle.text.specs.declared.Step.{Step}
 use Rattle.text.specs.declared.Step.the-variants.{More, Field, Complete, Breaks}
-use Rattle.text.specs.declared.End.{End}
 use Rattle.text.specs.declared.End.the-variants.{Nothing, Last, Cut}
-use Rattle.text.specs.declared.Read.{Read}
 use Rattle.text.specs.declared.Read.the-variants.{Record, Part, Broken}
 
 not-record : {s : Scan} {after : ℕ} → Part s ≡ Record after → ⊥

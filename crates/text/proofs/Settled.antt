@@ -1,14 +1,13 @@
 -- The promise of each public function settles its result, and the later contents of the list that is lent to it to write:
 -- two answers that it allows for the same arguments are equal, and so are two later contents. Assumes nothing.
 use Prim.Native.Nat.{ℕ}
-use mathlib.Core.Path.{_≡_, sym, _∙_, ap}
+use mathlib.Core.Path.{_≡_}
 use mathlib.Core.List.{List}
 use contract.Lifetimes.{Lfts}
 use denote.Ref.{now}
 use denote.Triple.Clauses.{AtExit}
 use borrow.Fn.Kinds.{PK, RK, Out, Dens, endedOf, resT}
 use Rattle.whole.proofs.Settles.{Settles, settled}
-use Rattle.text.specs.Reads.{stored, numbers}
 use Rattle.text.proofs.begin.Kinds as begin-kinds
 use Rattle.text.proofs.begin.Reads as begin
 use Rattle.text.proofs.feed.Kinds as feed-kinds

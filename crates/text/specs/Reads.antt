@@ -1,9 +1,8 @@
 -- Document 01, "The text and the program": a record, and a whole text, read byte after byte.
-use Prim.Native.Nat.{ℕ, zero, suc, _+_, _*_}
-use mathlib.Core.Bool.{Bool}
+use Prim.Native.Nat.{ℕ, _+_, _*_}
 use mathlib.Core.List.{List, [], _∷_}
 use lib.Dec.{leb, eqb}
-use lib.ListN.{length, drop, set}
+use lib.ListN.{set}
 use lib.Seq.{sets}
 use Rattle.whole.specs.Search.{pick}
 use Rattle.text.specs.Texts.{CR}

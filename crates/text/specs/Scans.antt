@@ -1,6 +1,6 @@
 -- Document 01, "The text and the program": what one byte of a text does, by where the reading stands in its record.
-use Prim.Native.Nat.{ℕ, zero, suc, _+_, _-_, _*_}
-use mathlib.Core.Bool.{Bool, true, false, _&&_, not}
+use Prim.Native.Nat.{ℕ, _+_, _-_, _*_}
+use mathlib.Core.Bool.{Bool, false, _&&_, not}
 use lib.Dec.{leb, ltb, eqb}
 use Rattle.whole.specs.Search.{pick, within}
 use Rattle.text.specs.Texts.{LF, CR, COMMA, DIGIT, LARGEST, LONGEST}

@@ -1,14 +1,11 @@
-use Rattle.text.proofs.Reading.{OneRecord, opens, goes-on, stores-a-field, completes, breaks, used-up}
-use native.Mathlib.Omega.{arith}
-use lib.ListN.{length}
+-- `text::read_record` meets its contract. Assumes nothing.
 use Prim.Native.Nat.{_-_}
+use native.Mathlib.Omega.{arith}
 use borrow.Author.Needs.{needs}
+use lib.ListN.{length}
+use Rattle.text.proofs.Reading.{OneRecord, opens, goes-on, stores-a-field, completes, breaks, used-up}
 use Rattle.text.proofs.read_record.Statement.{statement}
 use Rattle.text.proofs.read_record.Tie as tie
-use Rattle.text.proofs.read_record.Reads as reads
-use Rattle.text.proofs.read_record.Lts as lts
-use Rattle.text.proofs.feed.Reads as feed-reads
-use Rattle.text.proofs.field.put.Reads as put-reads
 
 abbrev Inv-loop : tie.InvT-loop
 Inv-loop chunk from row₀ scan₀ at₀ row scan at = OneRecord chunk from scan₀ row₀ at scan row
@@ -16,80 +13,61 @@ Inv-loop chunk from row₀ scan₀ at₀ row scan at = OneRecord chunk from scan
 abbrev μ-loop : tie.MeasureT-loop
 μ-loop chunk from row₀ scan₀ at₀ row scan at = length chunk - at
 
--- src/lib.rt:97:5
 loop-holds : tie.Need-loop-holds Inv-loop μ-loop
 loop-holds c = opens _ _ _ _
 
--- src/lib.rt:98:20
 shared-slice-read-byte : tie.Need-shared-slice-read-byte Inv-loop μ-loop
 shared-slice-read-byte c = search needs
 
--- src/lib.rt:99:9
 add-at : tie.Need-add-at Inv-loop μ-loop
 add-at c = search needs
 
--- src/lib.rt:100:13
 feed-requires : tie.Need-feed-requires Inv-loop μ-loop
 feed-requires c κs = search needs
 
--- src/lib.rt:102:24
 enum-known-step : tie.Need-enum-known-step Inv-loop μ-loop
 enum-known-step c = search needs
 
--- src/lib.rt:97:5
 loop-less : tie.Need-loop-less Inv-loop μ-loop
 loop-less c = omega arith
 
--- src/lib.rt:97:5
 loop-again : tie.Need-loop-again Inv-loop μ-loop
 loop-again c = goes-on (c .before .before .before .before .before .before .loop .inv) (search needs) (c .before .before .before .feed .ensures) (c .before .step .given .1)
 
--- src/lib.rt:105:27
 enum-known-step-2 : tie.Need-enum-known-step-2 Inv-loop μ-loop
 enum-known-step-2 c = search needs
 
--- src/lib.rt:106:17
 put-requires : tie.Need-put-requires Inv-loop μ-loop
 put-requires c κs = search needs
 
--- src/lib.rt:97:5
 loop-less-2 : tie.Need-loop-less-2 Inv-loop μ-loop
 loop-less-2 c = omega arith
 
--- src/lib.rt:97:5
 loop-again-2 : tie.Need-loop-again-2 Inv-loop μ-loop
 loop-again-2 c = stores-a-field (c .before .before .before .before .before .before .before .before .before .before .loop .inv) (search needs)
     (c .before .before .before .before .before .before .before .feed .ensures) (c .before .before .before .before .before .step2 .given .1) (c .before .before .put .ensures)
 
--- src/lib.rt:110:17
 enum-told : tie.Need-enum-told Inv-loop μ-loop
 enum-told c = search needs
 
--- src/lib.rt:110:17
 same-length : tie.Need-same-length Inv-loop μ-loop
 same-length c = c .before .before .before .before .before .loop .inv .same
 
--- src/lib.rt:110:17
 returns : tie.Need-returns Inv-loop μ-loop
 returns c = completes (c .before .before .before .before .before .loop .inv) (search needs) (c .before .before .feed .ensures) (c .enum-told .given .1)
 
--- src/lib.rt:113:17
 enum-told-2 : tie.Need-enum-told-2 Inv-loop μ-loop
 enum-told-2 c = search needs
 
--- src/lib.rt:113:17
 same-length-2 : tie.Need-same-length-2 Inv-loop μ-loop
 same-length-2 c = c .before .before .before .before .before .loop .inv .same
 
--- src/lib.rt:113:17
 returns-2 : tie.Need-returns-2 Inv-loop μ-loop
 returns-2 c = breaks (c .before .before .before .before .before .loop .inv) (search needs) (c .before .before .feed .ensures) (c .enum-told2 .given .1)
 
--- src/lib.rt:91:1
 same-length-3 : tie.Need-same-length-3 Inv-loop μ-loop
 same-length-3 c = c .before .loop .inv .same
 
--- src/lib.rt:91:1
 returns-3 : tie.Need-returns-3 Inv-loop μ-loop
 returns-3 c = used-up (c .before .loop .inv) (search needs)
 

@@ -1,48 +1,38 @@
+-- `text::decimal::line_fits` meets its contract. Assumes nothing.
+use Prim.Native.Nat.{_+_, _-_}
+use mathlib.Core.Path.{refl, sym, _∙_, _≡_}
+use native.Mathlib.Omega.{arith}
+use borrow.Author.Tests.{le-leb, lt-leb}
+use borrow.Author.Needs.{needs}
+use lib.ListN.{length}
 use Rattle.text.proofs.Lines.{line-at-most, at-least-2, no-numbers, some-numbers}
 use Rattle.text.proofs.Tests.{same-test}
 use Rattle.text.specs.Texts.{furtherText, lineText}
-use lib.ListN.{length}
-use lib.Dec.{leb}
-use borrow.Author.Tests.{le-leb, lt-leb}
-use native.Mathlib.Omega.{arith}
-use mathlib.Core.Path.{refl, sym, _∙_, ap, _≡_}
-use Prim.Native.Nat.{_+_, _-_}
-use borrow.Author.Needs.{needs}
 use Rattle.text.proofs.decimal.line_fits.Statement.{statement}
 use Rattle.text.proofs.decimal.line_fits.Tie as tie
-use Rattle.text.proofs.decimal.line_fits.Reads as reads
-use Rattle.text.proofs.decimal.line_fits.Lts as lts
-use Rattle.text.proofs.decimal.further_fits.Reads as further-fits-reads
 
--- src/decimal.rt:77:9
 returns : tie.Need-returns
 returns c = let a = c .before .before .args in sym (lt-leb (a .at + length (lineText (a .numbers .now))) (a .size) (omega arith))
 
--- src/decimal.rt:81:9
 returns-2 : tie.Need-returns-2
 returns-2 c = let a = c .before .before .before .args in
     sym (le-leb (a .at + length (lineText (a .numbers .now))) (a .size) (omega (arith, line-at-most (a .numbers .now) (λ i. omega (arith, c .before .before .shared-slice-known .given i)))))
 
--- src/decimal.rt:84:9
 returns-3 : tie.Need-returns-3
 returns-3 c = let a = c .before .before .before .before .args in
     sym (lt-leb (a .at + length (lineText (a .numbers .now))) (a .size) (omega (arith, at-least-2 (a .numbers .now))))
 
--- src/decimal.rt:87:9
 returns-4 : tie.Need-returns-4
 returns-4 c = let a = c .before .before .before .before .before .args in
     let two : length (lineText (a .numbers .now)) ≡ 2 = rw (no-numbers (a .numbers .now) (c .if4 .taken)) refl in
     sym (le-leb (a .at + length (lineText (a .numbers .now))) (a .size) (omega arith))
 
--- src/decimal.rt:89:27
 sub-further-fits : tie.Need-sub-further-fits
 sub-further-fits c = search needs
 
--- src/decimal.rt:89:5
 further-fits-requires : tie.Need-further-fits-requires
 further-fits-requires c κs = search needs
 
--- src/decimal.rt:73:1
 returns-5 : tie.Need-returns-5
 returns-5 c = let a = c .before .before .before .before .before .before .args in
     let one-more = some-numbers (a .numbers .now) (c .before .if4 .left) in

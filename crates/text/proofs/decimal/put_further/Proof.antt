@@ -1,31 +1,24 @@
-use lib.ListN.{length-set}
-use native.Mathlib.Numerals.{add-one}
+-- `text::decimal::put_further` meets its contract. Assumes nothing.
 use mathlib.Core.Path.{_∙_}
+use native.Mathlib.Numerals.{add-one}
 use borrow.Author.Needs.{needs}
+use lib.ListN.{length-set}
 use Rattle.text.proofs.decimal.put_further.Statement.{statement}
 use Rattle.text.proofs.decimal.put_further.Tie as tie
-use Rattle.text.proofs.decimal.put_further.Reads as reads
-use Rattle.text.proofs.decimal.put_further.Lts as lts
-use Rattle.text.proofs.decimal.put_digits.Reads as put-digits-reads
 
--- src/decimal.rt:98:5
 slice-write-buffer : tie.Need-slice-write-buffer
 slice-write-buffer c = search needs
 
--- src/decimal.rt:99:32
 add-put-digits : tie.Need-add-put-digits
 add-put-digits c = search needs
 
--- src/decimal.rt:99:5
 put-digits-requires : tie.Need-put-digits-requires
 put-digits-requires c κs = search needs
 
--- src/decimal.rt:93:1
 same-length : tie.Need-same-length
 same-length c = let a = c .before .before .before .before .before .args in
     c .before .before .put-digits .kept .1 .0 ∙ length-set (a .buffer .now) (a .at) 44
 
--- src/decimal.rt:93:1
 returns : tie.Need-returns
 returns c = (c .before .before .put-digits .ensures .0, rw add-one at (c .before .before .put-digits .ensures .1))
 

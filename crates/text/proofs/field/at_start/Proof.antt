@@ -1,41 +1,32 @@
-use lib.Dec.{ltb, leb}
-use Rattle.text.specs.Scans.{isDigit, atStart}
-use Rattle.text.proofs.Tests.{both}
+-- `text::field::at_start` meets its contract. Assumes nothing.
 use native.Mathlib.Omega.{arith}
 use borrow.Author.Tests.{ltb-true, leb-true}
-use mathlib.Core.Bool.{Bool}
 use borrow.Author.Needs.{needs}
+use lib.Dec.{ltb, leb}
+use Rattle.text.specs.Scans.{atStart}
+use Rattle.text.proofs.Tests.{both}
 use Rattle.text.proofs.field.at_start.Statement.{statement}
 use Rattle.text.proofs.field.at_start.Tie as tie
-use Rattle.text.proofs.field.at_start.Reads as reads
-use Rattle.text.proofs.field.at_start.Lts as lts
-use Rattle.text.proofs.field.is_digit.Reads as is-digit-reads
 
--- src/field.rt:42:8
 is-digit-requires : tie.Need-is-digit-requires
 is-digit-requires c κs = search needs
 
--- src/field.rt:43:49
 add-t8 : tie.Need-add-t8
 add-t8 c = let a = c .before .before .args in
     omega (arith, ltb-true (a .bytes) 16384 (both (c .before .is-digit .result) (ltb (a .bytes) 16384) (c .if1 .taken) .1))
 
--- src/field.rt:43:68
 sub-t9 : tie.Need-sub-t9
 sub-t9 c = let a = c .before .before .args in
     let digit = both (c .before .is-digit .result) (ltb (a .bytes) 16384) (c .if1 .taken) .0 in
     omega (arith, leb-true 48 (a .byte) (both (leb 48 (a .byte)) (leb (a .byte) 57) (rw (c .before .is-digit .ensures) at digit) .0))
 
--- src/field.rt:43:67
 cast-t10 : tie.Need-cast-t10
 cast-t10 c = search needs
 
--- src/field.rt:39:1
 returns : tie.Need-returns
 unfolding atStart
 returns c = rw (rw (c .before .is-digit .ensures) at (c .if1 .taken))
 
--- src/field.rt:39:1
 returns-2 : tie.Need-returns-2
 unfolding atStart
 returns-2 c = rw (rw (c .before .is-digit .ensures) at (c .if1 .left))

@@ -1,41 +1,33 @@
+-- `text::field::longer` meets its contract. Assumes nothing.
 use Prim.Native.Nat.{_+_, _*_}
 use mathlib.Core.Bool.{_&&_, not}
+use native.Mathlib.Omega.{arith}
+use borrow.Author.Tests.{ltb-true, leb-true}
+use borrow.Author.Needs.{needs}
 use lib.Dec.{ltb, leb, eqb}
 use Rattle.text.specs.Scans.{longer}
 use Rattle.text.proofs.Tests.{both}
-use native.Mathlib.Omega.{arith}
-use borrow.Author.Tests.{ltb-true, leb-true}
-use mathlib.Core.Bool.{Bool}
-use borrow.Author.Needs.{needs}
 use Rattle.text.proofs.field.longer.Statement.{statement}
 use Rattle.text.proofs.field.longer.Tie as tie
-use Rattle.text.proofs.field.longer.Reads as reads
-use Rattle.text.proofs.field.longer.Lts as lts
 
--- src/field.rt:54:18
 mul-number : tie.Need-mul-number
 mul-number c = search needs
 
--- src/field.rt:54:18
 add-number : tie.Need-add-number
 add-number c = search needs
 
--- src/field.rt:56:49
 add-t15 : tie.Need-add-t15
 add-t15 c = let a = c .before .args in
     omega (arith, ltb-true (a .bytes) 16384 (both (not (eqb (a .value) 0) && leb (a .value * 10 + a .digit) 4294967295) (ltb (a .bytes) 16384) (c .if1 .taken) .1))
 
--- src/field.rt:56:67
 cast-t16 : tie.Need-cast-t16
 cast-t16 c = let a = c .before .args in
     omega (arith, leb-true (a .value * 10 + a .digit) 4294967295 (both (not (eqb (a .value) 0)) (leb (a .value * 10 + a .digit) 4294967295) (both (not (eqb (a .value) 0) && leb (a .value * 10 + a .digit) 4294967295) (ltb (a .bytes) 16384) (c .if1 .taken) .0) .1))
 
--- src/field.rt:50:1
 returns : tie.Need-returns
 unfolding longer
 returns c = rw (c .if1 .taken)
 
--- src/field.rt:50:1
 returns-2 : tie.Need-returns-2
 unfolding longer
 returns-2 c = rw (c .if1 .left)

@@ -1,20 +1,17 @@
-use Rattle.text.specs.Reads.{fit}
+-- `text::whole_text::fit` meets its contract. Assumes nothing.
+use Prim.Native.Nat.{_*_}
+use mathlib.Core.Path.{_≡_}
 use native.Mathlib.Nat.{le-div-iff-mul-le, div-lt-iff-lt-mul, pos-of-ne-zero}
 use native.Mathlib.Omega.{arith}
 use borrow.Author.Tests.{le-leb, lt-leb}
-use mathlib.Core.Path.{_≡_, sym, _∙_}
-use Prim.Native.Nat.{_*_, _≤_, _<_}
 use borrow.Author.Needs.{needs}
+use Rattle.text.specs.Reads.{fit}
 use Rattle.text.proofs.whole_text.fit.Statement.{statement}
 use Rattle.text.proofs.whole_text.fit.Tie as tie
-use Rattle.text.proofs.whole_text.fit.Reads as reads
-use Rattle.text.proofs.whole_text.fit.Lts as lts
 
--- src/whole_text.rt:105:21
 enum-known-text : tie.Need-enum-known-text
 enum-known-text c = search needs
 
--- src/whole_text.rt:107:17
 returns : tie.Need-returns
 unfolding fit
 returns c = let n = c .before .before .text .given .0 .0 in
@@ -22,38 +19,31 @@ returns c = let n = c .before .before .text .given .0 .0 in
     let none : n * a .fields ≡ 0 = rw (c .if1 .taken) (omega arith) in
     rw (c .before .before .text .given .1) (rw (le-leb (n * a .fields) (a .room) (omega arith)))
 
--- src/whole_text.rt:109:27
 div-if2 : tie.Need-div-if2
 div-if2 c = search needs
 
--- src/whole_text.rt:115:24
 enum-known-text-2 : tie.Need-enum-known-text-2
 enum-known-text-2 c = search needs
 
--- src/whole_text.rt:116:26
 enum-told : tie.Need-enum-told
 enum-told c = search needs
 
--- src/whole_text.rt:101:1
 returns-2 : tie.Need-returns-2
 unfolding fit
 returns-2 c = let n = c .before .before .before .text .given .0 .0 in
     let a = c .before .before .before .before .before .args in
     rw (c .before .before .before .text .given .1) (rw (le-leb (n * a .fields) (a .room) (le-div-iff-mul-le (pos-of-ne-zero (c .before .if1 .left)) .0 (c .if2 .taken))))
 
--- src/whole_text.rt:101:1
 returns-3 : tie.Need-returns-3
 unfolding fit
 returns-3 c = let n = c .before .before .before .text .given .0 .0 in
     let a = c .before .before .before .before .before .args in
     rw (c .before .before .before .text .given .1) (rw (lt-leb (n * a .fields) (a .room) (div-lt-iff-lt-mul (pos-of-ne-zero (c .before .if1 .left)) .0 (c .if2 .left))))
 
--- src/whole_text.rt:101:1
 returns-4 : tie.Need-returns-4
 unfolding fit
 returns-4 c = rw (c .before .text2 .given .1)
 
--- src/whole_text.rt:101:1
 returns-5 : tie.Need-returns-5
 unfolding fit
 returns-5 c = rw (c .enum-told .given .1)

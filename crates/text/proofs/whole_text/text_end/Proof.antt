@@ -1,61 +1,46 @@
-use Rattle.text.specs.Scans.{ended}
+-- `text::whole_text::text_end` meets its contract. Assumes nothing.
 use mathlib.Core.Path.{sym}
 use borrow.Author.Needs.{needs}
+use Rattle.text.specs.Scans.{ended}
 use Rattle.text.proofs.whole_text.text_end.Statement.{statement}
 use Rattle.text.proofs.whole_text.text_end.Tie as tie
-use Rattle.text.proofs.whole_text.text_end.Reads as reads
-use Rattle.text.proofs.whole_text.text_end.Lts as lts
-use Rattle.text.proofs.feed.Reads as feed-reads
-use Rattle.text.proofs.whole_text.unfinished.Reads as unfinished-reads
 
--- src/whole_text.rt:37:9
 feed-requires : tie.Need-feed-requires
 feed-requires c κs = search needs
 
--- src/whole_text.rt:39:57
 enum-told : tie.Need-enum-told
 enum-told c = search needs
 
--- src/whole_text.rt:40:26
 enum-told-2 : tie.Need-enum-told-2
 enum-told-2 c = search needs
 
--- src/whole_text.rt:40:26
 unfinished-requires : tie.Need-unfinished-requires
 unfinished-requires c κs = search needs
 
--- src/whole_text.rt:41:27
 enum-told-3 : tie.Need-enum-told-3
 enum-told-3 c = search needs
 
--- src/whole_text.rt:41:27
 unfinished-requires-2 : tie.Need-unfinished-requires-2
 unfinished-requires-2 c κs = search needs
 
--- src/whole_text.rt:42:25
 enum-told-4 : tie.Need-enum-told-4
 enum-told-4 c = search needs
 
--- src/whole_text.rt:42:25
 unfinished-requires-3 : tie.Need-unfinished-requires-3
 unfinished-requires-3 c κs = search needs
 
--- src/whole_text.rt:34:1
 returns : tie.Need-returns
 unfolding ended
 returns c = rw (sym (c .before .before .feed .ensures), c .enum-told .given .1)
 
--- src/whole_text.rt:34:1
 returns-2 : tie.Need-returns-2
 unfolding ended
 returns-2 c = rw (sym (c .before .before .before .feed .ensures), c .before .enum-told2 .given .1) (c .unfinished .ensures)
 
--- src/whole_text.rt:34:1
 returns-3 : tie.Need-returns-3
 unfolding ended
 returns-3 c = rw (sym (c .before .before .before .feed .ensures), c .before .enum-told3 .given .1) (c .unfinished2 .ensures)
 
--- src/whole_text.rt:34:1
 returns-4 : tie.Need-returns-4
 unfolding ended
 returns-4 c = rw (sym (c .before .before .before .feed .ensures), c .before .enum-told4 .given .1) (c .unfinished3 .ensures)
