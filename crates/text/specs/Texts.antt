@@ -27,7 +27,7 @@ LARGEST = 4294967295
 abbrev pub LONGEST : ℕ
 LONGEST = 16384
 
--- the last k decimal digits of n, or all of them where there are fewer, most significant first, with no leading zero
+-- the last k decimal digits of n, or all of them where there are fewer, most significant first
 unfoldable pub lastDigits : ℕ → ℕ → List ℕ
 lastDigits zero n = []
 lastDigits (suc k) n = pick (ltb n 10) ((DIGIT + n) ∷ []) (lastDigits k (n / 10) ++ (DIGIT + n % 10) ∷ [])
