@@ -296,3 +296,7 @@ reads-back fields rows text fit (left-open all row) =
       texts-after fields 0 all (recordText row) (parts .0) ∙ open-text fields (0 + length all) row (parts .1) ∙ ap Holds (omega (arith, one-more all row)),
       numbers-of-texts fields all (recordText row) (parts .0) ∙ ap (λ (l : List ℕ). together all ++ l) (open-numbers fields row (parts .1)) ∙ sym (together-one-more all row),
     )
+
+-- two such texts are equal only where their numbers are
+pub text-tells : (fields : ℕ) (a b : List (List ℕ)) (text : List ℕ) → AllFit fields a → AllFit fields b → TextOf a text → TextOf b text → together a ≡ together b
+text-tells fields a b text fit-a fit-b is-a is-b = sym (reads-back fields a text fit-a is-a .1) ∙ reads-back fields b text fit-b is-b .1
