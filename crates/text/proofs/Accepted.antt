@@ -271,7 +271,9 @@ pub record IsBroken (fields : ℕ) (text : List ℕ) (place : ℕ) : Type 0 wher
   pub rows : List (List ℕ)
   pub rest : List ℕ
   pub fit : AllFit fields rows
+  pub left : List ℕ
   pub is : text ≡ textOf rows ++ rest
+  pub read : numbers fields text ≡ together rows ++ left
   pub count : place ≡ length rows + 1
   pub something : rest ≡ [] → ⊥
   pub not-last : (row : List ℕ) → Fits fields row → rest ≡ recordText row → ⊥
@@ -313,7 +315,9 @@ refused fields text place breaks-at = by (every-text fields text)
               rows = parts .rows;
               rest = parts .rest;
               fit = parts .fit;
+              left = parts .left;
               is = parts .is;
+              read = parts .read;
               count = same-place (sym breaks-at ∙ answer) ∙ (omega arith);
               something = λ none. not-broken (sym (no-text fields 0) ∙ ap (held fields) (sym none) ∙ first);
               not-last = λ row fits is. not-broken (sym (open-text fields 0 row fits) ∙ ap (held fields) (sym is) ∙ first);

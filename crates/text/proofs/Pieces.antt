@@ -1,6 +1,6 @@
 -- A text that comes in pieces of any size is read as it would be whole. Assumes nothing.
 use Prim.Native.Nat.{ℕ, zero, suc, _+_, _-_, _<_}
-use mathlib.Core.Path.{_≡_, refl, ap, _∙_}
+use mathlib.Core.Path.{_≡_, refl, ap, sym, _∙_}
 use mathlib.Core.List.{List, [], _∷_, _++_}
 use native.Mathlib.Omega.{arith}
 use lib.ListN.{length, set, drop}
@@ -75,13 +75,64 @@ read-elsewhere fields at by s (byte ∷ rest) = cases (feed s byte fields) (λ n
     cases Complete same = ap Record there
     cases Breaks same = refl
 
--- A whole text is its records read one after the other: what the next one is found to be settles the rest.
+-- A whole text that comes in pieces: after some of its bytes so many records are complete and the reading stands somewhere in
+-- the next, or a record is broken.
 
-unfoldable pub nextText : ℕ → ℕ → ℕ → Read → List ℕ → Text
-nextText fields n at (Record after) bytes = textOn fields (n + 1) begin (drop (after - at) bytes)
-nextText fields n at (Part scan) bytes = endOf (ended scan fields) n
-nextText fields n at Broken bytes = BrokenAt (n + 1)
+pub data Progress : Type 0 where
+  reading : ℕ → Scan → Progress
+  stopped : ℕ → Progress
 
+unfoldable pub progressOf : Step → ℕ → (Progress → Progress) → Progress
+progressOf (More next) n on = on (reading n next)
+progressOf (Field field number next) n on = on (reading n next)
+progressOf Complete n on = on (reading (n + 1) begin)
+progressOf Breaks n on = on (stopped (n + 1))
+
+unfoldable pub progress : ℕ → Progress → List ℕ → Progress
+progress fields so [] = so
+progress fields (reading n scan) (byte ∷ rest) = progressOf (feed scan byte fields) n (λ next. progress fields next rest)
+progress fields (stopped place) (byte ∷ rest) = stopped place
+
+-- what the text is found to be if it ends there
+unfoldable pub foundAt : ℕ → Progress → Text
+foundAt fields (reading n scan) = endOf (ended scan fields) n
+foundAt fields (stopped place) = BrokenAt place
+
+pub stays-stopped : (fields place : ℕ) (bytes : List ℕ) → progress fields (stopped place) bytes ≡ stopped place
+unfolding progress
+stays-stopped fields place [] = refl
+stays-stopped fields place (byte ∷ rest) = refl
+
+-- piece after piece is all at once
+pub progress-in-pieces : (fields : ℕ) (so : Progress) (a b : List ℕ) → progress fields so (a ++ b) ≡ progress fields (progress fields so a) b
+unfolding progress progressOf
+progress-in-pieces fields so [] b = refl
+progress-in-pieces fields (stopped place) (byte ∷ a) b = sym (stays-stopped fields place b)
+progress-in-pieces fields (reading n scan) (byte ∷ a) b = by (feed scan byte fields) (λ next. progress-in-pieces fields next a b)
+  where
+    by : (step : Step) → ((next : Progress) → progress fields next (a ++ b) ≡ progress fields (progress fields next a) b)
+        → progressOf step n (λ next. progress fields next (a ++ b)) ≡ progress fields (progressOf step n (λ next. progress fields next a)) b
+    by (More next) same = same (reading n next)
+    by (Field f v next) same = same (reading n next)
+    by Complete same = same (reading (n + 1) begin)
+    by Breaks same = same (stopped (n + 1))
+
+-- the whole text is found to be what its progress says
+pub found-by-progress : (fields n : ℕ) (s : Scan) (bytes : List ℕ) → textOn fields n s bytes ≡ foundAt fields (progress fields (reading n s) bytes)
+unfolding textOn textFrom progress progressOf foundAt
+found-by-progress fields n s [] = refl
+found-by-progress fields n s (byte ∷ rest) =
+    by (feed s byte fields) (λ next. found-by-progress fields n next rest) (found-by-progress fields (n + 1) begin rest)
+  where
+    by : (step : Step) → ((next : Scan) → textOn fields n next rest ≡ foundAt fields (progress fields (reading n next) rest))
+        → textOn fields (n + 1) begin rest ≡ foundAt fields (progress fields (reading (n + 1) begin) rest)
+        → textFrom step (λ next. textOn fields n next rest) (textOn fields (n + 1) begin rest) n ≡ foundAt fields (progressOf step n (λ next. progress fields next rest))
+    by (More next) same another = same next
+    by (Field f v next) same another = same next
+    by Complete same another = another
+    by Breaks same another = ap (foundAt fields) (sym (stays-stopped fields (n + 1) rest))
+
+-- a complete record ends after where its reading began
 reaches-on : (fields at : ℕ) (s : Scan) (bytes : List ℕ) (after : ℕ) → readOn fields at s bytes ≡ Record after → at < after
 unfolding readOn readOf
 reaches-on fields at s [] after e = absurd (let z : _≡_ {A = ℕ} 0 1 = cc in omega arith)
@@ -94,21 +145,27 @@ reaches-on fields at s (byte ∷ rest) after e = by (feed s byte fields) (λ nex
     by Complete on e = let same : at + 1 ≡ after = cc in omega arith
     by Breaks on e = absurd (let z : _≡_ {A = ℕ} 0 1 = cc in omega arith)
 
-pub record-by-record : (fields n at : ℕ) (s : Scan) (bytes : List ℕ) → textOn fields n s bytes ≡ nextText fields n at (readOn fields at s bytes) bytes
-unfolding readOn readOf textOn textFrom nextText
-record-by-record fields n at s [] = refl
-record-by-record fields n at s (byte ∷ rest) = by (feed s byte fields) (λ next. record-by-record fields n (at + 1) next rest)
+-- one call that reads on in a piece, from an index of it: where a record is complete, the rest of the piece is still to be read
+unfoldable pub nextProgress : ℕ → ℕ → ℕ → Read → List ℕ → Progress
+nextProgress fields n at (Record after) bytes = progress fields (reading (n + 1) begin) (drop (after - at) bytes)
+nextProgress fields n at (Part scan) bytes = reading n scan
+nextProgress fields n at Broken bytes = stopped (n + 1)
+
+pub progress-by-records : (fields n at : ℕ) (s : Scan) (bytes : List ℕ) → progress fields (reading n s) bytes ≡ nextProgress fields n at (readOn fields at s bytes) bytes
+unfolding readOn readOf progress progressOf nextProgress
+progress-by-records fields n at s [] = refl
+progress-by-records fields n at s (byte ∷ rest) = by (feed s byte fields) (λ next. progress-by-records fields n (at + 1) next rest)
   where
-    on : (found : Read) → ((after : ℕ) → found ≡ Record after → at + 1 < after) → nextText fields n (at + 1) found rest ≡ nextText fields n at found (byte ∷ rest)
+    on : (found : Read) → ((after : ℕ) → found ≡ Record after → at + 1 < after) → nextProgress fields n (at + 1) found rest ≡ nextProgress fields n at found (byte ∷ rest)
     on (Record after) past =
         let one-less : after - at ≡ suc (after - (at + 1)) = omega (arith, past after refl) in
         rw one-less
     on (Part scan) past = refl
     on Broken past = refl
 
-    by : (step : Step) → ((next : Scan) → textOn fields n next rest ≡ nextText fields n (at + 1) (readOn fields (at + 1) next rest) rest)
-        → textFrom step (λ next. textOn fields n next rest) (textOn fields (n + 1) begin rest) n ≡ nextText fields n at (readOf step (λ next. readOn fields (at + 1) next rest) (at + 1)) (byte ∷ rest)
+    by : (step : Step) → ((next : Scan) → progress fields (reading n next) rest ≡ nextProgress fields n (at + 1) (readOn fields (at + 1) next rest) rest)
+        → progressOf step n (λ next. progress fields next rest) ≡ nextProgress fields n at (readOf step (λ next. readOn fields (at + 1) next rest) (at + 1)) (byte ∷ rest)
     by (More next) same = same next ∙ on (readOn fields (at + 1) next rest) (reaches-on fields (at + 1) next rest)
     by (Field f v next) same = same next ∙ on (readOn fields (at + 1) next rest) (reaches-on fields (at + 1) next rest)
     by Complete same = let one : at + 1 - at ≡ suc zero = omega arith in rw one
-    by Breaks same = refl
+    by Breaks same = stays-stopped fields (n + 1) rest
