@@ -27,11 +27,11 @@ pub(crate) fn put_digits(number: u64, buffer: &mut [u8], at: usize) -> usize
     ensures stores { λ _. ⌜ now (buffer .exit) ≡ sets (now (buffer .entry)) at (digitsOf number) ⌝ }
 {
     if number < 10 {
-        buffer[at] = 48 + (number as u8);
+        buffer[at] = b'0' + (number as u8);
         at + 1
     } else {
         let next = put_digits(number / 10, buffer, at);
-        buffer[next] = 48 + ((number % 10) as u8);
+        buffer[next] = b'0' + ((number % 10) as u8);
         next + 1
     }
 }
@@ -95,7 +95,7 @@ fn put_further(number: u64, buffer: &mut [u8], at: usize) -> usize
     ensures answer { λ r. ⌜ r ≡ at + 1 + length (digitsOf number) ⌝ }
     ensures stores { λ _. ⌜ now (buffer .exit) ≡ sets (now (buffer .entry)) at (COMMA ∷ digitsOf number) ⌝ }
 {
-    buffer[at] = 44;
+    buffer[at] = b',';
     put_digits(number, buffer, at + 1)
 }
 
@@ -105,8 +105,8 @@ fn put_end(buffer: &mut [u8], at: usize) -> usize
     ensures answer { λ r. ⌜ r ≡ at + 2 ⌝ }
     ensures stores { λ _. ⌜ now (buffer .exit) ≡ sets (now (buffer .entry)) at (CR ∷ LF ∷ []) ⌝ }
 {
-    buffer[at] = 13;
-    buffer[at + 1] = 10;
+    buffer[at] = b'\r';
+    buffer[at + 1] = b'\n';
     at + 2
 }
 

@@ -10,7 +10,7 @@ use crate::Step;
 fn is_digit(byte: u8) -> bool
     ensures { λ r. ⌜ r ≡ isDigit byte ⌝ }
 {
-    (48 <= byte) & (byte <= 57)
+    (b'0' <= byte) & (byte <= b'9')
 }
 
 // Whether a field is followed by another of the record.
@@ -43,7 +43,7 @@ pub(crate) fn at_start(field: usize, bytes: usize, byte: u8) -> Step
         Step::More(Scan::Number {
             field,
             bytes: bytes + 1,
-            value: (byte - 48) as u32,
+            value: (byte - b'0') as u32,
         })
     } else {
         Step::Breaks
@@ -72,9 +72,9 @@ pub(crate) fn in_number(field: usize, bytes: usize, value: u32, byte: u8, fields
     ensures { λ r. ⌜ r ≡ inNumber field bytes value byte fields ⌝ }
 {
     if is_digit(byte) {
-        return longer(field, bytes, value, byte - 48);
+        return longer(field, bytes, value, byte - b'0');
     }
-    if (byte == 44) & followed(field, fields) & (bytes < 16_384) {
+    if (byte == b',') & followed(field, fields) & (bytes < 16_384) {
         return Step::Field {
             field,
             number: value,
@@ -84,7 +84,7 @@ pub(crate) fn in_number(field: usize, bytes: usize, value: u32, byte: u8, fields
             },
         };
     }
-    if (byte == 13) & is_last(field, fields) {
+    if (byte == b'\r') & is_last(field, fields) {
         return Step::Field {
             field,
             number: value,

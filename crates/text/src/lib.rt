@@ -113,7 +113,7 @@ pub fn feed(scan: Scan, byte: u8, fields: usize) -> Step
         } => in_number(field, bytes, value, byte, fields),
         Scan::Start { field, bytes } => at_start(field, bytes, byte),
         Scan::Return => {
-            if byte == 10 {
+            if byte == b'\n' {
                 Step::Complete
             } else {
                 Step::Breaks
@@ -162,7 +162,7 @@ pub fn finish(scan: Scan, row: &mut [u32]) -> End
     ensures answer { λ r. ⌜ r ≡ ended scan (length (now (row .entry))) ⌝ }
     ensures stores { λ _. ⌜ now (row .exit) ≡ rowAtEnd (length (now (row .entry))) scan (now (row .entry)) ⌝ }
 {
-    let step = feed(scan, 13, row.len());
+    let step = feed(scan, b'\r', row.len());
     match step {
         Step::Field {
             field,

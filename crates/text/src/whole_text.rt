@@ -32,7 +32,7 @@ pub(crate) fn unfinished(scan: Scan) -> End
 fn text_end(scan: Scan, fields: usize) -> End
     ensures { λ r. ⌜ r ≡ ended scan fields ⌝ }
 {
-    let step = feed(scan, 13, fields);
+    let step = feed(scan, b'\r', fields);
     match step {
         Step::Field {
             field: _,
@@ -116,7 +116,7 @@ pub(crate) fn store_text(text: &[u8], fields: usize, list: &mut [u32])
             }
         }
     }
-    let step = feed(scan, 13, fields);
+    let step = feed(scan, b'\r', fields);
     match step {
         Step::Field {
             field: _,
