@@ -131,6 +131,7 @@ fn damaged() {
     pairs(b"1,4294967296\r\n");
     pairs(b"1,2\r\n12345678901,1");
     pairs(b"1,2\n3,4\n");
+    pairs(b"1,2\n");
     pairs(b"1,2\r3,4\r\n");
     pairs(b"1,2\r\n3,4\r");
     pairs(b"1,2\r\n\r\n");
