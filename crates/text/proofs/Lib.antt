@@ -1,0 +1,11 @@
+pub mod Tests
+pub mod Stores
+pub mod Digits
+pub mod Lines
+pub mod Fed
+pub mod Reading
+pub mod Pieces
+pub mod ReadBack
+pub mod Accepted
+pub mod Records
+pub mod Settled

@@ -1,0 +1,58 @@
+-- `text::read_text` meets its contract. Assumes nothing.
+use mathlib.Core.Path.{refl, sym, _∙_, ap}
+use borrow.Author.Needs.{needs}
+use lib.ListN.{length}
+use Rattle.text.specs.Reads.{fit}
+use Rattle.text.proofs.read_text.Statement.{statement}
+use Rattle.text.proofs.read_text.Tie as tie
+
+check-text-requires : tie.Need-check-text-requires
+check-text-requires c κs = search needs
+
+fit-requires : tie.Need-fit-requires
+fit-requires c κs = search needs
+
+enum-known-found : tie.Need-enum-known-found
+enum-known-found c = search needs
+
+store-text-requires : tie.Need-store-text-requires
+store-text-requires c κs = search needs
+
+enum-known-found-2 : tie.Need-enum-known-found-2
+enum-known-found-2 c = search needs
+
+enum-told : tie.Need-enum-told
+enum-told c = search needs
+
+same-length : tie.Need-same-length
+same-length c = search needs
+
+returns : tie.Need-returns
+returns c = let a = c .before .before .before .before .before .before .before .before .before .before .before .args in (
+  sym (c .before .before .before .before .before .found .given .1) ∙ c .before .before .before .before .before .before .before .fit .ensures
+      ∙ ap (fit (a .fields) (length (a .list .now))) (c .before .before .before .before .before .before .before .before .check-text .ensures),
+  c .before .before .store-text .ensures,
+)
+
+returns-2 : tie.Need-returns-2
+returns-2 c = let a = c .before .before .before .before .before .before .before .args in
+    (sym (c .before .found2 .given .1) ∙ c .before .before .before .fit .ensures ∙ ap (fit (a .fields) (length (a .list .now))) (c .before .before .before .before .check-text .ensures), refl)
+
+returns-3 : tie.Need-returns-3
+returns-3 c = let a = c .before .before .before .before .before .before .args in
+    (sym (c .enum-told .given .1) ∙ c .before .before .fit .ensures ∙ ap (fit (a .fields) (length (a .list .now))) (c .before .before .before .check-text .ensures), refl)
+
+pub read-text-spec : {M : Type 1} → statement M
+read-text-spec =
+    tie.close
+    (tie.spec
+    check-text-requires
+    fit-requires
+    enum-known-found
+    store-text-requires
+    enum-known-found-2
+    enum-told
+    same-length
+    returns
+    returns-2
+    returns-3)

@@ -1,0 +1,4 @@
+pub mod Texts
+pub mod Scans
+pub mod Reads
+pub mod Writes

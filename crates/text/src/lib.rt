@@ -1,0 +1,235 @@
+// The text: records of whole numbers as document 01 writes them, read a byte at a time, so that a text may come in
+// pieces of any size, and decimal digits out.
+ghost use mathlib.Core.Path.{_≡_};
+ghost use lib.ListN.{length, drop};
+ghost use Rattle.text.specs.Scans.{begin, feed, ended};
+ghost use Rattle.text.specs.Texts.{digitsOf, lineText};
+ghost use Rattle.text.specs.Writes.{written, afterWriting};
+ghost use Rattle.text.specs.Reads.{readOn, rowOn, rowAtEnd, held, numbers, fit, stored, one};
+
+mod decimal;
+mod field;
+mod whole_text;
+
+use decimal::fits;
+use decimal::line_fits;
+use decimal::put_digits;
+use decimal::put_line;
+use field::at_start;
+use field::in_number;
+use field::put;
+use whole_text::check_text;
+use whole_text::fit;
+use whole_text::one;
+use whole_text::store_text;
+use whole_text::unfinished;
+
+// Where the reading stands inside a record: `field` of its fields are complete, and `bytes` of its bytes are read.
+pub enum Scan {
+    // No digit of the next field is read yet.
+    Start {
+        field: usize,
+        bytes: usize,
+    },
+    // The digits of a field so far make `value`.
+    Number {
+        field: usize,
+        bytes: usize,
+        value: u32,
+    },
+    // The last field is complete, and the CR after it is read.
+    Return,
+}
+
+// What one byte does.
+pub enum Step {
+    More(Scan),
+    // The field of this index is complete.
+    Field {
+        field: usize,
+        number: u32,
+        next: Scan,
+    },
+    // The record is complete.
+    Complete,
+    // The record breaks a rule.
+    Breaks,
+}
+
+// What the end of the text does.
+pub enum End {
+    // It comes between records.
+    Nothing,
+    // It ends the last record, as CR LF would.
+    Last,
+    // It comes inside a record, which breaks it.
+    Cut,
+}
+
+// What reading on in a chunk finds.
+pub enum Read {
+    // The record is complete, and the text goes on at this index.
+    Record(usize),
+    // The chunk is used up: the next one goes on from here.
+    Part(Scan),
+    // The record breaks a rule.
+    Broken,
+}
+
+// What a whole text is found to be.
+pub enum Text {
+    // So many records.
+    Holds(usize),
+    // The first record that breaks a rule, counted from 1.
+    BrokenAt(usize),
+    // Its numbers do not fit the list.
+    TooLong,
+}
+
+// Where writing into a buffer ended.
+pub enum Written {
+    // The position after the last byte written.
+    To(usize),
+    // The bytes do not fit, and none is written.
+    NoRoom,
+}
+
+// Where a record's reading begins.
+pub fn begin() -> Scan
+    ensures { λ r. ⌜ r ≡ begin ⌝ }
+{
+    Scan::Start { field: 0, bytes: 0 }
+}
+
+// What one byte does in a record of so many fields.
+pub fn feed(scan: Scan, byte: u8, fields: usize) -> Step
+    ensures { λ r. ⌜ r ≡ feed scan byte fields ⌝ }
+{
+    match scan {
+        Scan::Number {
+            field,
+            bytes,
+            value,
+        } => in_number(field, bytes, value, byte, fields),
+        Scan::Start { field, bytes } => at_start(field, bytes, byte),
+        Scan::Return => {
+            if byte == b'\n' {
+                Step::Complete
+            } else {
+                Step::Breaks
+            }
+        }
+    }
+}
+
+// Reads on in a chunk from an index, to the end of the record and no further. A record has as many fields as the row
+// has numbers, and each number goes to its field's index.
+pub fn read_record(chunk: &[u8], from: usize, scan: Scan, row: &mut [u32]) -> Read
+    ensures answer { λ r. ⌜ r ≡ readOn (length (now (row .entry))) from scan (drop from (now (chunk .entry))) ⌝ }
+    ensures stores { λ _. ⌜ now (row .exit) ≡ rowOn (length (now (row .entry))) scan (now (row .entry)) (drop from (now (chunk .entry))) ⌝ }
+{
+    let mut scan = scan;
+    let mut at = from;
+    while at < chunk.len() {
+        let byte = chunk[at];
+        at += 1;
+        let step = feed(scan, byte, row.len());
+        match step {
+            Step::More(next) => {
+                scan = next;
+            }
+            Step::Field {
+                field,
+                number,
+                next,
+            } => {
+                put(row, field, number);
+                scan = next;
+            }
+            Step::Complete => {
+                return Read::Record(at);
+            }
+            Step::Breaks => {
+                return Read::Broken;
+            }
+        }
+    }
+    Read::Part(scan)
+}
+
+// The text ends. A record that ends with it is complete, and its last number goes to the row.
+pub fn finish(scan: Scan, row: &mut [u32]) -> End
+    ensures answer { λ r. ⌜ r ≡ ended scan (length (now (row .entry))) ⌝ }
+    ensures stores { λ _. ⌜ now (row .exit) ≡ rowAtEnd (length (now (row .entry))) scan (now (row .entry)) ⌝ }
+{
+    let step = feed(scan, b'\r', row.len());
+    match step {
+        Step::Field {
+            field,
+            number,
+            next: _,
+        } => {
+            put(row, field, number);
+            End::Last
+        }
+        Step::More(_) => unfinished(scan),
+        Step::Complete => unfinished(scan),
+        Step::Breaks => unfinished(scan),
+    }
+}
+
+// Reads a whole text of records of so many fields each into a list, one record after the other.
+pub fn read_text(text: &[u8], fields: usize, list: &mut [u32]) -> Text
+    ensures answer { λ r. ⌜ r ≡ fit fields (length (now (list .entry))) (held fields (now (text .entry))) ⌝ }
+    ensures stores { λ r. ⌜ now (list .exit) ≡ stored r (numbers fields (now (text .entry))) (now (list .entry)) ⌝ }
+{
+    let found = fit(fields, list.len(), check_text(text, fields));
+    match found {
+        Text::Holds(records) => {
+            store_text(text, fields, list);
+            Text::Holds(records)
+        }
+        Text::BrokenAt(record) => Text::BrokenAt(record),
+        Text::TooLong => Text::TooLong,
+    }
+}
+
+// Reads a text of exactly one record, of as many fields as the row has numbers.
+pub fn read_one(text: &[u8], row: &mut [u32]) -> Text
+    ensures answer { λ r. ⌜ r ≡ one (held (length (now (row .entry))) (now (text .entry))) ⌝ }
+    ensures stores { λ r. ⌜ now (row .exit) ≡ stored r (numbers (length (now (row .entry))) (now (text .entry))) (now (row .entry)) ⌝ }
+{
+    let found = one(check_text(text, row.len()));
+    match found {
+        Text::Holds(records) => {
+            store_text(text, row.len(), row);
+            Text::Holds(records)
+        }
+        Text::BrokenAt(record) => Text::BrokenAt(record),
+        Text::TooLong => Text::TooLong,
+    }
+}
+
+// Writes the decimal digits of a number into a buffer from a position on, most significant first.
+pub fn write_decimal(number: u64, buffer: &mut [u8], at: usize) -> Written
+    ensures answer { λ r. ⌜ r ≡ written (now (buffer .entry)) at (digitsOf number) ⌝ }
+    ensures stores { λ _. ⌜ now (buffer .exit) ≡ afterWriting (now (buffer .entry)) at (digitsOf number) ⌝ }
+{
+    if fits(number, buffer.len(), at) {
+        Written::To(put_digits(number, buffer, at))
+    } else {
+        Written::NoRoom
+    }
+}
+
+// Writes a record of numbers with its end into a buffer from a position on.
+pub fn write_record(numbers: &[u64], buffer: &mut [u8], at: usize) -> Written
+    ensures answer { λ r. ⌜ r ≡ written (now (buffer .entry)) at (lineText (now (numbers .entry))) ⌝ }
+    ensures stores { λ _. ⌜ now (buffer .exit) ≡ afterWriting (now (buffer .entry)) at (lineText (now (numbers .entry))) ⌝ }
+{
+    if line_fits(numbers, buffer.len(), at) {
+        Written::To(put_line(numbers, buffer, at))
+    } else {
+        Written::NoRoom
+    }
+}

@@ -1,0 +1,24 @@
+-- `text_figures::print_start` meets its contract. Assumes nothing.
+use mathlib.Core.Path.{sym}
+use borrow.Author.Needs.{needs}
+use lib.Seq.{length-take-le}
+use Rattle.text_figures.proofs.print_start.Statement.{statement}
+use Rattle.text_figures.proofs.print_start.Tie as tie
+
+slice-aggregate-write-all : tie.Need-slice-aggregate-write-all
+slice-aggregate-write-all c =
+    let a = c .before .before .before .args in
+    sym (length-take-le (a .end) (a .buffer .now) (c .before .if1 .taken))
+
+write-all-requires : tie.Need-write-all-requires
+write-all-requires c κs = search needs
+
+returns : tie.Need-returns
+returns c = search needs
+
+returns-2 : tie.Need-returns-2
+returns-2 c = search needs
+
+pub print-start-spec : {M : Type 1} → statement M
+print-start-spec =
+    tie.close (tie.spec slice-aggregate-write-all write-all-requires returns returns-2)
