@@ -1,0 +1,63 @@
+use borrow.Author.Needs.{needs}
+use Rattle.diagram.proofs.calibrate.Statement.{statement}
+use Rattle.diagram.proofs.calibrate.Tie as tie
+use Rattle.diagram.proofs.calibrate.Reads as reads
+use Rattle.diagram.proofs.calibrate.Lts as lts
+use Rattle.diagram.proofs.fit.Reads as fit-reads
+use Rattle.diagram.proofs.round_values.Reads as round-values-reads
+use Rattle.diagram.proofs.row.row_values.Reads as row-values-reads
+
+-- src/lib.rt:171:9
+fit-requires : tie.Need-fit-requires
+fit-requires c κs = search needs
+
+-- src/lib.rt:173:30
+enum-known-fitted : tie.Need-enum-known-fitted
+enum-known-fitted c = search needs
+
+-- src/lib.rt:174:27
+enum-known-fitted-2 : tie.Need-enum-known-fitted-2
+enum-known-fitted-2 c = search needs
+
+-- src/lib.rt:175:17
+row-values-requires : tie.Need-row-values-requires
+row-values-requires c κs = search needs
+
+-- src/lib.rt:176:17
+round-values-requires : tie.Need-round-values-requires
+round-values-requires c κs = search needs
+
+-- src/lib.rt:178:36
+enum-known-made : tie.Need-enum-known-made
+enum-known-made c = search needs
+
+-- src/lib.rt:179:33
+enum-known-made-2 : tie.Need-enum-known-made-2
+enum-known-made-2 c = search needs
+
+-- src/lib.rt:168:1
+returns : tie.Need-returns
+returns c = ?
+
+-- src/lib.rt:168:1
+returns-2 : tie.Need-returns-2
+returns-2 c = ?
+
+-- src/lib.rt:168:1
+returns-3 : tie.Need-returns-3
+returns-3 c = ?
+
+pub calibrate-spec : {M : Type 1} → statement M
+calibrate-spec =
+    tie.close
+    (tie.spec
+    fit-requires
+    enum-known-fitted
+    enum-known-fitted-2
+    row-values-requires
+    round-values-requires
+    enum-known-made
+    enum-known-made-2
+    returns
+    returns-2
+    returns-3)

@@ -1,0 +1,31 @@
+use borrow.Author.Needs.{needs}
+use Rattle.diagram.proofs.checks.accept_samples.Statement.{statement}
+use Rattle.diagram.proofs.checks.accept_samples.Tie as tie
+use Rattle.diagram.proofs.checks.accept_samples.Reads as reads
+use Rattle.diagram.proofs.checks.accept_samples.Lts as lts
+use Rattle.diagram.proofs.checks.lengths_fit.Reads as lengths-fit-reads
+use Rattle.diagram.proofs.checks.samples_usable.Reads as samples-usable-reads
+
+-- src/checks.rt:92:9
+lengths-fit-requires : tie.Need-lengths-fit-requires
+lengths-fit-requires c κs = search needs
+
+-- src/checks.rt:93:9
+returns : tie.Need-returns
+returns c = ?
+
+-- src/checks.rt:95:9
+samples-usable-requires : tie.Need-samples-usable-requires
+samples-usable-requires c κs = ?
+
+-- src/checks.rt:97:9
+returns-2 : tie.Need-returns-2
+returns-2 c = ?
+
+-- src/checks.rt:89:1
+returns-3 : tie.Need-returns-3
+returns-3 c = ?
+
+pub accept-samples-spec : {M : Type 1} → statement M
+accept-samples-spec =
+    tie.close (tie.spec lengths-fit-requires returns samples-usable-requires returns-2 returns-3)
