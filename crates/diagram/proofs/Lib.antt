@@ -1,2 +1,4 @@
 pub mod Tests
 pub mod Passes
+pub mod Rounding
+pub mod Answers

@@ -1,3 +1,9 @@
+use Rattle.diagram.proofs.Answers.{values-fit}
+use Rattle.diagram.specs.Calibration.{valuesFit, rowAs}
+use Rattle.diagram.specs.declared.RowAnswer.the-variants.{Made}
+use Rattle.corridor.specs.declared.Answer.the-variants.{Accepted}
+use Rattle.corridor.proofs.Answers.{stops, passes}
+use mathlib.Core.Path.{refl, ap, _∙_}
 use borrow.Author.Needs.{needs}
 use Rattle.diagram.proofs.round_values.Statement.{statement}
 use Rattle.diagram.proofs.round_values.Tie as tie
@@ -16,15 +22,18 @@ add-t4 c = search needs
 
 -- src/lib.rt:152:9
 returns : tie.Need-returns
-returns c = ?
+returns c = let values = c .before .before .args .values in
+    ap (λ a. rowAs a values) (stops (valuesFit values) Accepted (c .before .values-fit .ensures) (c .if1 .taken))
 
 -- src/lib.rt:154:21
 row-numbers-requires : tie.Need-row-numbers-requires
-row-numbers-requires c κs = ?
+row-numbers-requires c κs = values-fit (c .before .before .args .values) (c .before .values-fit .ensures) (c .if1 .left)
 
 -- src/lib.rt:147:1
 returns-2 : tie.Need-returns-2
-returns-2 c = ?
+returns-2 c = let values = c .before .before .before .args .values in
+    ap Made (c .row-numbers .ensures)
+    ∙ ap (λ a. rowAs a values) (passes (valuesFit values) (c .before .before .values-fit .ensures) (c .before .if1 .left) refl)
 
 pub round-values-spec : {M : Type 1} → statement M
 round-values-spec =

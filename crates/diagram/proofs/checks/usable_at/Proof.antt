@@ -1,3 +1,6 @@
+use Rattle.diagram.specs.Samples.{usable}
+use Rattle.whole.proofs.Sums.{at-cell}
+use mathlib.Core.Path.{ap, _∙_}
 use borrow.Author.Needs.{needs}
 use Rattle.diagram.proofs.checks.usable_at.Statement.{statement}
 use Rattle.diagram.proofs.checks.usable_at.Tie as tie
@@ -13,7 +16,7 @@ settings-fit-requires c κs = search needs
 
 -- src/checks.rt:60:9
 returns : tie.Need-returns
-returns c = ?
+returns c = rw (c .before .if1 .taken) (c .settings-fit .ensures)
 
 -- src/checks.rt:62:13
 sub-i : tie.Need-sub-i
@@ -45,7 +48,7 @@ usable-requires c κs = search needs
 
 -- src/checks.rt:54:1
 returns-2 : tie.Need-returns-2
-returns-2 c = ?
+returns-2 c = rw (at-cell, (c .before .before .before .before .if1 .left)) (c .usable .ensures ∙ ap usable (c .before .read-sample .ensures))
 
 pub usable-at-spec : {M : Type 1} → statement M
 usable-at-spec =
