@@ -1,6 +1,6 @@
 -- How an answer goes from check to check, and what the answers of the fit and the row tell. Assumes nothing.
 use Prim.Native.Nat.{ℕ, _≤_, _<_}
-use mathlib.Core.Path.{_≡_, refl, sym, ap, _∙_}
+use mathlib.Core.Path.{_≡_, refl, sym, ap, ap₂, _∙_}
 use mathlib.Core.Bool.{Bool, true, false, _&&_}
 use mathlib.Core.List.{List, [], _∷_}
 use native.Mathlib.Omega.{arith}
@@ -15,14 +15,18 @@ use Rattle.corridor.specs.declared.Answer.the-variants.{Accepted, Refused}
 use Rattle.corridor.specs.Checks.{Check, least, orLater, answer}
 use Rattle.corridor.specs.Acceptance.{lengths}
 use Rattle.corridor.proofs.Ranges.{both-hold}
+use Rattle.corridor.proofs.Answers.{refused-stays, accepted-goes-on}
 use Rattle.diagram.specs.declared.Settings.{Settings}
 use Rattle.diagram.specs.declared.Diagram.{Diagram}
 use Rattle.diagram.specs.declared.RowValues.{RowValues}
 use Rattle.diagram.specs.declared.RowNumbers.{RowNumbers}
+use Rattle.diagram.specs.declared.FitAnswer.{FitAnswer}
 use Rattle.diagram.specs.declared.FitAnswer.the-variants.{Fitted, NotFitted}
+use Rattle.diagram.specs.declared.RowAnswer.{RowAnswer}
 use Rattle.diagram.specs.declared.RowAnswer.the-variants.{Made, NotMade}
-use Rattle.diagram.specs.RowNumbers.{rowNumbers, valueFits}
-use Rattle.diagram.specs.Calibration.{lengthsFit, valuesFit, fitAs, rowAs}
+use Rattle.diagram.specs.declared.Calibration.the-variants.{Calibrated, NotCalibrated}
+use Rattle.diagram.specs.RowNumbers.{rowValues, rowNumbers, valueFits}
+use Rattle.diagram.specs.Calibration.{lengthsFit, valuesFit, fitChecks, fittedDiagram, fittedValues, fitAs, rowAs, calibratedAs, fitOf, calibrationOf}
 
 -- a check of one place
 pub test-fails : (refusal : ℕ → Refusal) (later : Answer) {fit : Bool} → fit ≡ false → Refused (refusal 0) ≡ orLater (record { places = 1; test = λ _. fit; refusal = refusal }) later
@@ -73,3 +77,41 @@ not-made-by (Refused r) values e = cc
 pub made-by : (a : Answer) (values : RowValues) {numbers : RowNumbers} → Made numbers ≡ rowAs a values → (Accepted ≡ a) × (numbers ≡ rowNumbers values)
 made-by Accepted values e = (refl, cc)
 made-by (Refused r) values e = (cc, cc)
+
+-- ---- from the fit and the row to the calibration
+module _ (settings : Settings) (flow occupancy : List Float) where
+  abbrev diagram : Diagram
+  diagram = fittedDiagram settings flow occupancy
+
+  abbrev values : RowValues
+  values = fittedValues settings flow occupancy
+
+  abbrev first : List Check
+  first = fitChecks settings flow occupancy
+
+  abbrev later : List Check
+  later = valuesFit values ∷ []
+
+  pub not-fitted : {fit : FitAnswer} {refusal : Refusal} → fit ≡ fitOf settings flow occupancy → fit ≡ NotFitted refusal → NotCalibrated refusal ≡ calibrationOf settings flow occupancy
+  not-fitted e is = ap (λ a. calibratedAs a diagram values) (refused-stays first later (not-fitted-by (answer first) diagram (sym is ∙ e)))
+
+  -- the fit is a diagram, the values were worked out from it, and the row was made of them or not
+  module _ {fit : FitAnswer} {found : Diagram} {worked : RowValues} {row : RowAnswer} (e : fit ≡ fitOf settings flow occupancy) (is : fit ≡ Fitted found) (w : worked ≡ rowValues found (settings .period) (settings .cell)) (r : row ≡ rowAs (answer (valuesFit worked ∷ [])) worked) where
+    fitted : (Accepted ≡ answer first) × (found ≡ diagram)
+    fitted = fitted-by (answer first) diagram (sym is ∙ e)
+
+    row-is : row ≡ rowAs (answer later) values
+    row-is =
+        r
+        ∙ ap (λ v. rowAs (answer (valuesFit v ∷ [])) v) (w ∙ ap (λ d. rowValues d (settings .period) (settings .cell)) (fitted .1))
+
+    pub not-made : {refusal : Refusal} → row ≡ NotMade refusal → NotCalibrated refusal ≡ calibrationOf settings flow occupancy
+    not-made made =
+        ap (λ a. calibratedAs a diagram values)
+        (accepted-goes-on first later (fitted .0) (not-made-by (answer later) values (sym made ∙ row-is)))
+
+    pub calibrated : {numbers : RowNumbers} → row ≡ Made numbers → Calibrated found numbers ≡ calibrationOf settings flow occupancy
+    calibrated made =
+        let numbers-are = made-by (answer later) values (sym made ∙ row-is) in
+        ap₂ Calibrated (fitted .1) (numbers-are .1)
+        ∙ ap (λ a. calibratedAs a diagram values) (accepted-goes-on first later (fitted .0) (numbers-are .0))

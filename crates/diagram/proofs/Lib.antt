@@ -2,3 +2,4 @@ pub mod Tests
 pub mod Passes
 pub mod Rounding
 pub mod Answers
+pub mod Fitting

@@ -1,3 +1,4 @@
+use Rattle.diagram.proofs.Answers.{not-fitted, not-made, calibrated}
 use borrow.Author.Needs.{needs}
 use Rattle.diagram.proofs.calibrate.Statement.{statement}
 use Rattle.diagram.proofs.calibrate.Tie as tie
@@ -37,15 +38,18 @@ enum-known-made-2 c = search needs
 
 -- src/lib.rt:168:1
 returns : tie.Need-returns
-returns c = ?
+returns c = let lists = c .before .before .before .before .before .before .args in
+    not-fitted (lists .settings) (lists .flow .now) (lists .occupancy .now) (c .before .before .before .fit .ensures) (c .before .fitted .given .1)
 
 -- src/lib.rt:168:1
 returns-2 : tie.Need-returns-2
-returns-2 c = ?
+returns-2 c = let lists = c .before .before .before .before .before .before .before .before .before .before .before .args in
+    not-made (lists .settings) (lists .flow .now) (lists .occupancy .now) (c .before .before .before .before .before .before .before .before .fit .ensures) (c .before .before .before .before .before .before .fitted2 .given .1) (c .before .before .before .before .row-values .ensures) (c .before .before .before .round-values .ensures) (c .before .made .given .1)
 
 -- src/lib.rt:168:1
 returns-3 : tie.Need-returns-3
-returns-3 c = ?
+returns-3 c = let lists = c .before .before .before .before .before .before .before .before .before .before .before .args in
+    calibrated (lists .settings) (lists .flow .now) (lists .occupancy .now) (c .before .before .before .before .before .before .before .before .fit .ensures) (c .before .before .before .before .before .before .fitted2 .given .1) (c .before .before .before .before .row-values .ensures) (c .before .before .before .round-values .ensures) (c .before .made2 .given .1)
 
 pub calibrate-spec : {M : Type 1} → statement M
 calibrate-spec =
