@@ -3,3 +3,5 @@ pub mod Passes
 pub mod Rounding
 pub mod Answers
 pub mod Fitting
+pub mod Settled
+pub mod WorkedCase
