@@ -7,7 +7,6 @@ use Rattle.whole.specs.Search.{pick}
 
 infixl 65 _⊕_ _⊖_
 infixl 70 _⊗_ _⊘_
-
 abbrev pub _⊕_ : Float → Float → Float
 x ⊕ y = add binary64 x y
 

@@ -60,12 +60,7 @@ fn usable_at(flow: &[f64], occupancy: &[f64], settings: Settings, position: usiz
         return settings_fit(settings);
     }
     let i = position - 1;
-    usable(read_sample(
-        settings.g,
-        settings.lanes,
-        flow[i],
-        occupancy[i],
-    ))
+    usable(read_sample(settings.g, settings.lanes, flow[i], occupancy[i]))
 }
 
 // Number 9.

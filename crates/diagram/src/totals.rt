@@ -2,6 +2,7 @@
 // read anew in each pass, so that nothing is stored.
 ghost use mathlib.Core.Path.{_≡_};
 ghost use Prim.Native.Nat.{_≤_};
+ghost use lib.Ieee.{lt};
 ghost use lib.ListN.{length};
 ghost use Rattle.diagram.specs.Samples.{samples};
 ghost use Rattle.diagram.specs.Diagrams.{adds, flowByDensity, densitySquared, speedSums, larger, largestFlow, addsAbove, gapByExcess, excessSquared, waveSums, freeOf};
@@ -51,13 +52,7 @@ fn larger_flow(most: f64, sample: Sample) -> f64
     ensures { λ r. ⌜ r ≡ larger most sample ⌝ }
 {
     match sample {
-        Sample::Good(flow, _) => {
-            if most < flow {
-                flow
-            } else {
-                most
-            }
-        }
+        Sample::Good(flow, _) => { if most < flow { flow } else { most } }
         Sample::Unusable(_) => most,
     }
 }
@@ -77,12 +72,19 @@ pub(crate) fn largest_flow(flow: &[f64], occupancy: &[f64], settings: Settings) 
     most
 }
 
+// What "above critical" means, for both sums of wave.
+fn is_above(density: f64, critical: f64) -> bool
+    ensures { λ r. ⌜ r ≡ lt critical density ⌝ }
+{
+    density > critical
+}
+
 fn plus_gap_by_excess(total: f64, capacity: f64, critical: f64, sample: Sample) -> f64
     ensures { λ r. ⌜ r ≡ addsAbove critical (gapByExcess capacity critical) total sample ⌝ }
 {
     match sample {
         Sample::Good(flow, density) => {
-            if density > critical {
+            if is_above(density, critical) {
                 total + (capacity - flow) * (density - critical)
             } else {
                 total
@@ -97,7 +99,7 @@ fn plus_excess_squared(total: f64, critical: f64, sample: Sample) -> f64
 {
     match sample {
         Sample::Good(_, density) => {
-            if density > critical {
+            if is_above(density, critical) {
                 total + (density - critical) * (density - critical)
             } else {
                 total
@@ -118,14 +120,18 @@ pub(crate) fn wave_sums(
     requires { ⌜ length (now flow) ≡ length (now occupancy) ⌝ }
     ensures { λ r. ⌜ r ≡ waveSums capacity critical (samples settings (now (flow .entry)) (now (occupancy .entry))) ⌝ }
 {
-    let mut top = 0.0;
-    let mut bottom = 0.0;
+    let n = flow.len();
+    let mut gaps = 0.0;
+    let mut excesses = 0.0;
     let mut i = 0;
-    while i < flow.len() {
+    while i < n {
         let sample = read_sample(settings.g, settings.lanes, flow[i], occupancy[i]);
-        top = plus_gap_by_excess(top, capacity, critical, sample);
-        bottom = plus_excess_squared(bottom, critical, sample);
+        gaps = plus_gap_by_excess(gaps, capacity, critical, sample);
+        excesses = plus_excess_squared(excesses, critical, sample);
         i += 1;
     }
-    Sums { top, bottom }
+    Sums {
+        top: gaps,
+        bottom: excesses,
+    }
 }

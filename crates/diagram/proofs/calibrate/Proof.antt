@@ -1,52 +1,38 @@
-use Rattle.diagram.proofs.Answers.{not-fitted, not-made, calibrated}
+-- `diagram::calibrate` meets its contract. Assumes nothing.
 use borrow.Author.Needs.{needs}
+use Rattle.diagram.proofs.Answers.{not-fitted, not-made, calibrated}
 use Rattle.diagram.proofs.calibrate.Statement.{statement}
 use Rattle.diagram.proofs.calibrate.Tie as tie
-use Rattle.diagram.proofs.calibrate.Reads as reads
-use Rattle.diagram.proofs.calibrate.Lts as lts
-use Rattle.diagram.proofs.fit.Reads as fit-reads
-use Rattle.diagram.proofs.round_values.Reads as round-values-reads
-use Rattle.diagram.proofs.row.row_values.Reads as row-values-reads
 
--- src/lib.rt:171:9
 fit-requires : tie.Need-fit-requires
 fit-requires c κs = search needs
 
--- src/lib.rt:173:30
 enum-known-fitted : tie.Need-enum-known-fitted
 enum-known-fitted c = search needs
 
--- src/lib.rt:174:27
 enum-known-fitted-2 : tie.Need-enum-known-fitted-2
 enum-known-fitted-2 c = search needs
 
--- src/lib.rt:175:17
 row-values-requires : tie.Need-row-values-requires
 row-values-requires c κs = search needs
 
--- src/lib.rt:176:17
 round-values-requires : tie.Need-round-values-requires
 round-values-requires c κs = search needs
 
--- src/lib.rt:178:36
 enum-known-made : tie.Need-enum-known-made
 enum-known-made c = search needs
 
--- src/lib.rt:179:33
 enum-known-made-2 : tie.Need-enum-known-made-2
 enum-known-made-2 c = search needs
 
--- src/lib.rt:168:1
 returns : tie.Need-returns
 returns c = let lists = c .before .before .before .before .before .before .args in
     not-fitted (lists .settings) (lists .flow .now) (lists .occupancy .now) (c .before .before .before .fit .ensures) (c .before .fitted .given .1)
 
--- src/lib.rt:168:1
 returns-2 : tie.Need-returns-2
 returns-2 c = let lists = c .before .before .before .before .before .before .before .before .before .before .before .args in
     not-made (lists .settings) (lists .flow .now) (lists .occupancy .now) (c .before .before .before .before .before .before .before .before .fit .ensures) (c .before .before .before .before .before .before .fitted2 .given .1) (c .before .before .before .before .row-values .ensures) (c .before .before .before .round-values .ensures) (c .before .made .given .1)
 
--- src/lib.rt:168:1
 returns-3 : tie.Need-returns-3
 returns-3 c = let lists = c .before .before .before .before .before .before .before .before .before .before .before .args in
     calibrated (lists .settings) (lists .flow .now) (lists .occupancy .now) (c .before .before .before .before .before .before .before .before .fit .ensures) (c .before .before .before .before .before .before .fitted2 .given .1) (c .before .before .before .before .row-values .ensures) (c .before .before .before .round-values .ensures) (c .before .made2 .given .1)

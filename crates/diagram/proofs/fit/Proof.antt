@@ -1,25 +1,19 @@
-use Rattle.diagram.proofs.Answers.{lengths-fit, accepted-lengths}
-use Rattle.diagram.specs.Calibration.{sampleChecks, diagramFits, fittedDiagram, fitAs}
-use Rattle.corridor.proofs.Answers.{refused-stays, accepted-goes-on}
+-- `diagram::fit` meets its contract. Assumes nothing.
 use mathlib.Core.List.{[], _∷_}
 use mathlib.Core.Path.{refl, sym, ap, _∙_}
 use borrow.Author.Needs.{needs}
+use Rattle.corridor.proofs.Answers.{refused-stays, accepted-goes-on}
+use Rattle.diagram.proofs.Answers.{lengths-fit, accepted-lengths}
+use Rattle.diagram.specs.Calibration.{sampleChecks, diagramFits, fittedDiagram, fitAs}
 use Rattle.diagram.proofs.fit.Statement.{statement}
 use Rattle.diagram.proofs.fit.Tie as tie
-use Rattle.diagram.proofs.fit.Reads as reads
-use Rattle.diagram.proofs.fit.Lts as lts
-use Rattle.diagram.proofs.checks.accept_samples.Reads as accept-samples-reads
-use Rattle.diagram.proofs.fit_samples.Reads as fit-samples-reads
 
--- src/lib.rt:139:9
 accept-samples-requires : tie.Need-accept-samples-requires
 accept-samples-requires c κs = search needs
 
--- src/lib.rt:140:28
 enum-known-found : tie.Need-enum-known-found
 enum-known-found c = search needs
 
--- src/lib.rt:141:9
 returns : tie.Need-returns
 returns c = let lists = c .before .before .before .before .before .before .args in
     let first = sampleChecks (lists .settings) (lists .flow .now) (lists .occupancy .now) in
@@ -29,13 +23,11 @@ returns c = let lists = c .before .before .before .before .before .before .args 
 enum-told : tie.Need-enum-told
 enum-told c = search needs
 
--- src/lib.rt:143:5
 fit-samples-requires : tie.Need-fit-samples-requires
 fit-samples-requires c κs = let lists = c .before .before .before .before .before .args in
     let fit = lengths-fit (lists .settings) (lists .flow .now) (lists .occupancy .now) (accepted-lengths _ _ (sym (c .enum-told .given .1) ∙ (c .before .before .accept-samples .ensures))) in
     (fit .equal, fit .within)
 
--- src/lib.rt:136:1
 returns-2 : tie.Need-returns-2
 returns-2 c = let lists = c .before .before .before .before .before .before .args in
     let first = sampleChecks (lists .settings) (lists .flow .now) (lists .occupancy .now) in

@@ -1,67 +1,51 @@
+-- `diagram::read_sample` meets its contract. Assumes nothing.
+use mathlib.Core.Path.{ap₂}
+use borrow.Author.Needs.{needs}
+use lib.Ieee.{ofBits, ofInt}
 use Rattle.diagram.specs.declared.Sample.the-variants.{Good}
 use Rattle.diagram.specs.Samples.{sampleOf, density}
-use mathlib.Core.Path.{refl, sym, ap, ap₂, _∙_}
 use Rattle.diagram.proofs.Tests.{fails, holds}
 use Rattle.diagram.specs.Samples.{sampleOf}
-use lib.Ieee.{ofBits, ofInt}
-use borrow.Author.Needs.{needs}
 use Rattle.diagram.proofs.read_sample.Statement.{statement}
 use Rattle.diagram.proofs.read_sample.Tie as tie
-use Rattle.diagram.proofs.read_sample.Reads as reads
-use Rattle.diagram.proofs.read_sample.Lts as lts
-use Rattle.diagram.proofs.samples.between.Reads as between-reads
-use Rattle.diagram.proofs.samples.finite.Reads as finite-reads
-use Rattle.diagram.proofs.samples.unsigned.Reads as unsigned-reads
 
--- src/lib.rt:93:9
 finite-requires : tie.Need-finite-requires
 finite-requires c κs = search needs
 
--- src/lib.rt:94:9
 returns : tie.Need-returns
 unfolding sampleOf ofBits ofInt
 returns c = rw (fails (c .before .finite .ensures) (c .if1 .taken))
 
--- src/lib.rt:96:9
 between-requires : tie.Need-between-requires
 between-requires c κs = search needs
 
--- src/lib.rt:97:9
 returns-2 : tie.Need-returns-2
 unfolding sampleOf ofBits ofInt
 returns-2 c = rw (holds (c .before .before .before .finite .ensures) (c .before .before .if1 .left), fails (c .before .between .ensures) (c .if2 .taken))
 
--- src/lib.rt:99:9
 finite-requires-2 : tie.Need-finite-requires-2
 finite-requires-2 c κs = search needs
 
--- src/lib.rt:100:9
 returns-3 : tie.Need-returns-3
 unfolding sampleOf ofBits ofInt
 returns-3 c = rw (holds (c .before .before .before .before .before .finite .ensures) (c .before .before .before .before .if1 .left), holds (c .before .before .before .between .ensures) (c .before .before .if2 .left), fails (c .before .finite2 .ensures) (c .if3 .taken))
 
--- src/lib.rt:102:9
 between-requires-2 : tie.Need-between-requires-2
 between-requires-2 c κs = search needs
 
--- src/lib.rt:103:9
 returns-4 : tie.Need-returns-4
 unfolding sampleOf ofBits ofInt
 returns-4 c = rw (holds (c .before .before .before .before .before .before .before .finite .ensures) (c .before .before .before .before .before .before .if1 .left), holds (c .before .before .before .before .before .between .ensures) (c .before .before .before .before .if2 .left), holds (c .before .before .before .finite2 .ensures) (c .before .before .if3 .left), fails (c .before .between2 .ensures) (c .if4 .taken))
 
--- src/lib.rt:105:20
 unsigned-requires : tie.Need-unsigned-requires
 unsigned-requires c κs = search needs
 
--- src/lib.rt:105:57
 int-to-float-density : tie.Need-int-to-float-density
 int-to-float-density c = search needs
 
--- src/lib.rt:106:18
 unsigned-requires-2 : tie.Need-unsigned-requires-2
 unsigned-requires-2 c κs = search needs
 
--- src/lib.rt:90:1
 returns-5 : tie.Need-returns-5
 unfolding sampleOf ofBits ofInt
 returns-5 c = rw (holds (c .before .before .before .before .before .before .before .before .before .before .finite .ensures) (c .before .before .before .before .before .before .before .before .before .if1 .left), holds (c .before .before .before .before .before .before .before .before .between .ensures) (c .before .before .before .before .before .before .before .if2 .left), holds (c .before .before .before .before .before .before .finite2 .ensures) (c .before .before .before .before .before .if3 .left), holds (c .before .before .before .before .between2 .ensures) (c .before .before .before .if4 .left))

@@ -1,35 +1,27 @@
+-- `diagram::round_values` meets its contract. Assumes nothing.
+use mathlib.Core.Path.{refl, ap, _∙_}
+use borrow.Author.Needs.{needs}
+use Rattle.corridor.specs.declared.Answer.the-variants.{Accepted}
+use Rattle.corridor.proofs.Answers.{stops, passes}
 use Rattle.diagram.proofs.Answers.{values-fit}
 use Rattle.diagram.specs.Calibration.{valuesFit, rowAs}
 use Rattle.diagram.specs.declared.RowAnswer.the-variants.{Made}
-use Rattle.corridor.specs.declared.Answer.the-variants.{Accepted}
-use Rattle.corridor.proofs.Answers.{stops, passes}
-use mathlib.Core.Path.{refl, ap, _∙_}
-use borrow.Author.Needs.{needs}
 use Rattle.diagram.proofs.round_values.Statement.{statement}
 use Rattle.diagram.proofs.round_values.Tie as tie
-use Rattle.diagram.proofs.round_values.Reads as reads
-use Rattle.diagram.proofs.round_values.Lts as lts
-use Rattle.diagram.proofs.checks.values_fit.Reads as values-fit-reads
-use Rattle.diagram.proofs.row.row_numbers.Reads as row-numbers-reads
 
--- src/lib.rt:150:9
 values-fit-requires : tie.Need-values-fit-requires
 values-fit-requires c κs = search needs
 
--- src/lib.rt:152:53
 add-t4 : tie.Need-add-t4
 add-t4 c = search needs
 
--- src/lib.rt:152:9
 returns : tie.Need-returns
 returns c = let values = c .before .before .args .values in
     ap (λ a. rowAs a values) (stops (valuesFit values) Accepted (c .before .values-fit .ensures) (c .if1 .taken))
 
--- src/lib.rt:154:21
 row-numbers-requires : tie.Need-row-numbers-requires
 row-numbers-requires c κs = values-fit (c .before .before .args .values) (c .before .values-fit .ensures) (c .if1 .left)
 
--- src/lib.rt:147:1
 returns-2 : tie.Need-returns-2
 returns-2 c = let values = c .before .before .before .args .values in
     ap Made (c .row-numbers .ensures)

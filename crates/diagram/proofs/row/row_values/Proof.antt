@@ -1,26 +1,20 @@
-use Rattle.diagram.specs.RowNumbers.{rowValues}
-use lib.Ieee.{ofBits, ofInt}
-use mathlib.Core.Path.{refl, sym, ap, ap₂, _∙_}
+-- `diagram::row::row_values` meets its contract. Assumes nothing.
+use mathlib.Core.Path.{ap₂}
 use borrow.Author.Needs.{needs}
+use lib.Ieee.{ofBits, ofInt}
+use Rattle.diagram.specs.RowNumbers.{rowValues}
 use Rattle.diagram.proofs.row.row_values.Statement.{statement}
 use Rattle.diagram.proofs.row.row_values.Tie as tie
-use Rattle.diagram.proofs.row.row_values.Reads as reads
-use Rattle.diagram.proofs.row.row_values.Lts as lts
-use Rattle.diagram.proofs.row.share.Reads as share-reads
 
--- src/row.rt:22:12
 share-requires : tie.Need-share-requires
 share-requires c κs = search needs
 
--- src/row.rt:23:12
 share-requires-2 : tie.Need-share-requires-2
 share-requires-2 c κs = search needs
 
--- src/row.rt:24:41
 int-to-float-t6 : tie.Need-int-to-float-t6
 int-to-float-t6 c = search needs
 
--- src/row.rt:18:1
 returns : tie.Need-returns
 unfolding ofBits ofInt
 returns c = let given = c .before .before .before .before .before .args in

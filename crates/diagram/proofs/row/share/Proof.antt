@@ -1,16 +1,13 @@
-use lib.Ieee.{ofBits, ofInt}
-use mathlib.Core.Path.{refl, sym, ap, ap₂, _∙_}
+-- `diagram::row::share` meets its contract. Assumes nothing.
+use mathlib.Core.Path.{refl}
 use borrow.Author.Needs.{needs}
+use lib.Ieee.{ofBits, ofInt}
 use Rattle.diagram.proofs.row.share.Statement.{statement}
 use Rattle.diagram.proofs.row.share.Tie as tie
-use Rattle.diagram.proofs.row.share.Reads as reads
-use Rattle.diagram.proofs.row.share.Lts as lts
 
--- src/row.rt:14:16
 int-to-float-result : tie.Need-int-to-float-result
 int-to-float-result c = search needs
 
--- src/row.rt:11:1
 returns : tie.Need-returns
 unfolding ofBits ofInt
 returns c = refl

@@ -1,11 +1,9 @@
+-- `diagram::samples::finite` meets its contract. Assumes nothing.
 use lib.Ieee.{ofBits, div, neg}
 use Rattle.diagram.proofs.Tests.{between-infinities}
 use Rattle.diagram.proofs.samples.finite.Statement.{statement}
 use Rattle.diagram.proofs.samples.finite.Tie as tie
-use Rattle.diagram.proofs.samples.finite.Reads as reads
-use Rattle.diagram.proofs.samples.finite.Lts as lts
 
--- src/samples.rt:6:1
 returns : tie.Need-returns
 unfolding ofBits div neg
 returns c = between-infinities _

@@ -1,15 +1,12 @@
+-- `diagram::samples::unsigned` meets its contract. Assumes nothing.
 use lib.Ieee.{ofBits, ofInt}
 use Rattle.diagram.proofs.samples.unsigned.Statement.{statement}
 use Rattle.diagram.proofs.samples.unsigned.Tie as tie
-use Rattle.diagram.proofs.samples.unsigned.Reads as reads
-use Rattle.diagram.proofs.samples.unsigned.Lts as lts
 
--- src/samples.rt:21:1
 returns : tie.Need-returns
 unfolding ofBits ofInt
 returns c = rw (c .if1 .taken)
 
--- src/samples.rt:21:1
 returns-2 : tie.Need-returns-2
 unfolding ofBits ofInt
 returns-2 c = rw (c .if1 .left)

@@ -1,26 +1,20 @@
+-- `diagram::totals::larger_flow` meets its contract. Assumes nothing.
 use borrow.Author.Needs.{needs}
 use Rattle.diagram.proofs.totals.larger_flow.Statement.{statement}
 use Rattle.diagram.proofs.totals.larger_flow.Tie as tie
-use Rattle.diagram.proofs.totals.larger_flow.Reads as reads
-use Rattle.diagram.proofs.totals.larger_flow.Lts as lts
 
--- src/totals.rt:54:22
 enum-known-sample : tie.Need-enum-known-sample
 enum-known-sample c = search needs
 
--- src/totals.rt:61:32
 enum-told : tie.Need-enum-told
 enum-told c = search needs
 
--- src/totals.rt:50:1
 returns : tie.Need-returns
 returns c = rw (c .before .before .sample .given .1) (rw (c .if1 .taken))
 
--- src/totals.rt:50:1
 returns-2 : tie.Need-returns-2
 returns-2 c = rw (c .before .before .sample .given .1) (rw (c .if1 .left))
 
--- src/totals.rt:50:1
 returns-3 : tie.Need-returns-3
 returns-3 c = search needs
 

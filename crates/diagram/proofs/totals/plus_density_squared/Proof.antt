@@ -1,22 +1,17 @@
+-- `diagram::totals::plus_density_squared` meets its contract. Assumes nothing.
 use borrow.Author.Needs.{needs}
 use Rattle.diagram.proofs.totals.plus_density_squared.Statement.{statement}
 use Rattle.diagram.proofs.totals.plus_density_squared.Tie as tie
-use Rattle.diagram.proofs.totals.plus_density_squared.Reads as reads
-use Rattle.diagram.proofs.totals.plus_density_squared.Lts as lts
 
--- src/totals.rt:26:25
 enum-known-sample : tie.Need-enum-known-sample
 enum-known-sample c = search needs
 
--- src/totals.rt:27:32
 enum-told : tie.Need-enum-told
 enum-told c = search needs
 
--- src/totals.rt:22:1
 returns : tie.Need-returns
 returns c = rw (c .before .sample .given .1)
 
--- src/totals.rt:22:1
 returns-2 : tie.Need-returns-2
 returns-2 c = search needs
 

@@ -1,22 +1,17 @@
+-- `diagram::totals::plus_flow_by_density` meets its contract. Assumes nothing.
 use borrow.Author.Needs.{needs}
 use Rattle.diagram.proofs.totals.plus_flow_by_density.Statement.{statement}
 use Rattle.diagram.proofs.totals.plus_flow_by_density.Tie as tie
-use Rattle.diagram.proofs.totals.plus_flow_by_density.Reads as reads
-use Rattle.diagram.proofs.totals.plus_flow_by_density.Lts as lts
 
--- src/totals.rt:17:22
 enum-known-sample : tie.Need-enum-known-sample
 enum-known-sample c = search needs
 
--- src/totals.rt:18:32
 enum-told : tie.Need-enum-told
 enum-told c = search needs
 
--- src/totals.rt:13:1
 returns : tie.Need-returns
 returns c = rw (c .before .sample .given .1)
 
--- src/totals.rt:13:1
 returns-2 : tie.Need-returns-2
 returns-2 c = search needs
 

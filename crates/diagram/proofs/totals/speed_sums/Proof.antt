@@ -1,18 +1,14 @@
+-- `diagram::totals::speed_sums` meets its contract. Assumes nothing.
+use Prim.Native.Nat.{_-_}
+use mathlib.Core.Path.{ap₂}
+use borrow.Author.Needs.{needs}
+use lib.Ieee.{ofBits, ofInt}
 use Rattle.diagram.proofs.Passes.{sums-of}
 use Rattle.diagram.specs.Diagrams.{flowByDensity, densitySquared}
 use Rattle.diagram.specs.Samples.{samples}
-use mathlib.Core.Path.{_≡_, refl, ap₂, _∙_}
-use Prim.Native.Nat.{_-_}
-use lib.Ieee.{ofBits, ofInt}
-use borrow.Author.Needs.{needs}
 use Rattle.diagram.proofs.Passes.{Passing, summing, begins, goes-on, ends}
 use Rattle.diagram.proofs.totals.speed_sums.Statement.{statement}
 use Rattle.diagram.proofs.totals.speed_sums.Tie as tie
-use Rattle.diagram.proofs.totals.speed_sums.Reads as reads
-use Rattle.diagram.proofs.totals.speed_sums.Lts as lts
-use Rattle.diagram.proofs.read_sample.Reads as read-sample-reads
-use Rattle.diagram.proofs.totals.plus_density_squared.Reads as plus-density-squared-reads
-use Rattle.diagram.proofs.totals.plus_flow_by_density.Reads as plus-flow-by-density-reads
 
 abbrev Inv-loop : tie.InvT-loop
 Inv-loop flow occupancy settings end top₀ bottom₀ i₀ top bottom i = Passing (summing flowByDensity) (samples settings flow occupancy) (settings .start) end i top
@@ -21,57 +17,44 @@ Inv-loop flow occupancy settings end top₀ bottom₀ i₀ top bottom i = Passin
 abbrev μ-loop : tie.MeasureT-loop
 μ-loop flow occupancy settings end top₀ bottom₀ i₀ top bottom i = end - i
 
--- src/totals.rt:41:5
 loop-holds : tie.Need-loop-holds Inv-loop μ-loop
 unfolding ofBits ofInt
 loop-holds c = (begins _ _ _ _, begins _ _ _ _)
 
--- src/totals.rt:42:62
 mul-read-sample : tie.Need-mul-read-sample Inv-loop μ-loop
 mul-read-sample c = search needs
 
--- src/totals.rt:42:62
 shared-slice-read-read-sample : tie.Need-shared-slice-read-read-sample Inv-loop μ-loop
 shared-slice-read-read-sample c = search needs
 
--- src/totals.rt:42:71
 mul-read-sample-2 : tie.Need-mul-read-sample-2 Inv-loop μ-loop
 mul-read-sample-2 c = search needs
 
--- src/totals.rt:42:71
 shared-slice-read-read-sample-2 : tie.Need-shared-slice-read-read-sample-2 Inv-loop μ-loop
 shared-slice-read-read-sample-2 c = search needs
 
--- src/totals.rt:42:13
 read-sample-requires : tie.Need-read-sample-requires Inv-loop μ-loop
 read-sample-requires c κs = search needs
 
--- src/totals.rt:43:9
 plus-flow-by-density-requires : tie.Need-plus-flow-by-density-requires Inv-loop μ-loop
 plus-flow-by-density-requires c κs = search needs
 
--- src/totals.rt:44:9
 plus-density-squared-requires : tie.Need-plus-density-squared-requires Inv-loop μ-loop
 plus-density-squared-requires c κs = search needs
 
--- src/totals.rt:45:9
 add-i : tie.Need-add-i Inv-loop μ-loop
 add-i c = search needs
 
--- src/totals.rt:41:5
 loop-less : tie.Need-loop-less Inv-loop μ-loop
 loop-less c = search needs
 
--- src/totals.rt:41:5
 loop-again : tie.Need-loop-again Inv-loop μ-loop
 loop-again c = let lists = c .before .before .before .before .before .before .before .before .before .args in
-    let read = (c .before .before .read-sample .ensures) in
-    (
+    let read = (c .before .before .read-sample .ensures) in (
       goes-on (lists .settings) (lists .flow .now) (lists .occupancy .now) (c .before .before .before .before .before .before .loop .inv .0) (search needs) (search needs) read (c .before .plus-flow-by-density .ensures),
       goes-on (lists .settings) (lists .flow .now) (lists .occupancy .now) (c .before .before .before .before .before .before .loop .inv .1) (search needs) (search needs) read (c .plus-density-squared .ensures),
     )
 
--- src/totals.rt:32:1
 returns : tie.Need-returns Inv-loop μ-loop
 returns c = ap₂ sums-of (ends (c .before .loop .inv .0) (search needs)) (ends (c .before .loop .inv .1) (search needs))
 
