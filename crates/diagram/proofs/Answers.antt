@@ -78,6 +78,10 @@ pub made-by : (a : Answer) (values : RowValues) {numbers : RowNumbers} → Made 
 made-by Accepted values e = (refl, cc)
 made-by (Refused r) values e = (cc, cc)
 
+pub calibrated-by : (a : Answer) (diagram : Diagram) (values : RowValues) {found : Diagram} {numbers : RowNumbers} → Calibrated found numbers ≡ calibratedAs a diagram values → (Accepted ≡ a) × (numbers ≡ rowNumbers values)
+calibrated-by Accepted diagram values e = (refl, cc)
+calibrated-by (Refused r) diagram values e = (cc, cc)
+
 -- ---- from the fit and the row to the calibration
 module _ (settings : Settings) (flow occupancy : List Float) where
   abbrev diagram : Diagram

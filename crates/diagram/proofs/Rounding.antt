@@ -54,7 +54,7 @@ double-value : (n : ℕ) → n ≤ 2 ^ 53 → HasValue (double n) false n 1
 unfolding ofInt
 double-value n h = round-whole binary64 false n h
 
-double-positive : (n : ℕ) → n ≤ 2 ^ 53 → 0 < n → T (positive.positive (double n))
+pub double-positive : (n : ℕ) → n ≤ 2 ^ 53 → 0 < n → T (positive.positive (double n))
 double-positive n h p = positive.positive-of-value (double n) n 1 (double-value n h) p
 
 -- x is finite and above zero, at least 1 and at most the limit
