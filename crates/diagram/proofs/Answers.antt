@@ -1,11 +1,10 @@
 -- How an answer goes from check to check, and what the answers of the fit and the row tell. Assumes nothing.
 use Prim.Native.Nat.{ℕ, _≤_, _<_}
 use mathlib.Core.Path.{_≡_, refl, sym, ap, ap₂, _∙_}
-use mathlib.Core.Bool.{Bool, true, false, _&&_}
+use mathlib.Core.Bool.{Bool, true, false}
 use mathlib.Core.List.{List, [], _∷_}
-use native.Mathlib.Omega.{arith}
 use borrow.Author.Tests.{leb-true, eqb-true}
-use lib.Dec.{leb, eqb, lit<}
+use lib.Dec.{lit<}
 use lib.Ieee.{Float}
 use lib.ListN.{length}
 use Rattle.whole.proofs.Search.{all-pass}

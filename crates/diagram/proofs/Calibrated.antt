@@ -1,10 +1,10 @@
 -- What the public answers tell: a fitted diagram holds no NaN, and neither do its row values; a row that was made is in the
 -- ranges that number 2 asks of v, w, F and J. Assumes nothing.
-use Prim.Native.Nat.{ℕ, zero, suc, _+_, _-_, _*_, _^_, _≤_, _<_}
-use mathlib.Core.Path.{_≡_, refl, sym, ap, _∙_, subst}
-use mathlib.Core.Bool.{Bool, true, false, not, _&&_, _||_, true≢false, false≢true}
-use mathlib.Core.List.{List, [], _∷_}
-use native.Mathlib.Nat.{le-trans, mul-comm}
+use Prim.Native.Nat.{ℕ, zero, _-_, _*_, _^_, _≤_, _<_}
+use mathlib.Core.Path.{_≡_, refl, sym, _∙_, subst}
+use mathlib.Core.Bool.{Bool, true, false, _&&_, true≢false, false≢true}
+use mathlib.Core.List.{List}
+use native.Mathlib.Nat.{le-trans}
 use native.Mathlib.Omega.{arith}
 use borrow.Author.Tests.{leb-true, eqb-true, eq-eqb, le-leb, ltb-false}
 use lib.IntN.{ℤ}
@@ -13,7 +13,6 @@ use lib.Ieee.{Float, nan, inf, fin, binary64, up, down, le, lt, eq, ofInt, mul, 
 use lib.Ieee.Positive as positive
 use lib.ListN.{length, take, drop, length-take, length-drop}
 use Rattle.whole.specs.Search.{pick, within}
-use Rattle.whole.specs.Share.{ONE}
 use Rattle.whole.proofs.Search.{all-pass}
 use Rattle.corridor.specs.declared.Row.{Row}
 use Rattle.corridor.specs.declared.Answer.{Answer}
@@ -33,13 +32,13 @@ use Rattle.diagram.specs.declared.RowAnswer.the-variants.{Made}
 use Rattle.diagram.specs.declared.Calibration.the-variants.{Calibrated}
 use Rattle.diagram.specs.Doubles.{_⊗_, _⊘_, double, finite, between, isZero, unsigned}
 use Rattle.diagram.specs.Samples.{vehicleFits, lanesFit, cellFits, flowInRange, occupancyInRange, density, sampleOf, sampleAt, samples}
-use Rattle.diagram.specs.Diagrams.{freeOf, diagramOf, fits}
+use Rattle.diagram.specs.Diagrams.{freeOf, fits}
 use Rattle.diagram.specs.RowNumbers.{share, rowValues, rowNumbers, roundedDown, valueFits}
 use Rattle.diagram.specs.Calibration.{lengthsFit, cellSettingsFit, settingsFit, samplesUsable, settingUsable, diagramFits, valuesFit, rowChecks, fitChecks, calibrationChecks, fittedDiagram, fittedValues, fitOf, rowOf, calibrationOf}
 use Rattle.diagram.proofs.Rounding.{double-positive, in-limits, rounded-least, rounded-most}
 use Rattle.diagram.proofs.Answers.{accepted-lengths, lengths-fit, values-fit, fitted-by, made-by, calibrated-by}
 use Rattle.diagram.proofs.Passes.{samples-length}
-use Rattle.diagram.proofs.Signs.{UpTo, NotNegative, Above, AtLeastOneOver, up-to-more, not-negative, le-value, double-up-to, mul-up-to, div-up-to, mul-sign, div-sign, above-sign}
+use Rattle.diagram.proofs.Signs.{UpTo, NotNegative, AtLeastOneOver, up-to-more, not-negative, le-value, double-up-to, mul-up-to, div-up-to, mul-sign, div-sign, above-sign}
 use Rattle.diagram.proofs.NoNan.{Of, Each, each-built, each-drop, each-take, Usual, Sound, sound}
 
 yes : {b : Bool} → b ≡ true → T b
@@ -56,7 +55,7 @@ minus-zero m e h =
 
 pub unsigned-up-to : (most : ℕ) → most ≤ 2 ^ 53 → (x : Float) → between (double 0) (double most) x ≡ true → UpTo most (unsigned x)
 unfolding le lt eq ofInt
-unsigned-up-to most fits x h = 
+unsigned-up-to most fits x h =
     let both = both-hold (le (double 0) x) (le x (double most)) h in
     by x (isZero x) refl (both .0) (both .1)
   where
@@ -100,13 +99,12 @@ usual-sample g lanes flow occupancy vehicle many = by (finite flow) (flowInRange
     by true false in-flow c d in-occupancy = tt
     by true true in-flow false d in-occupancy = tt
     by true true in-flow true false in-occupancy = tt
-    by true true in-flow true true in-occupancy =
-        (
-          unsigned-up-to 20_000 (lit≤ tt) flow in-flow,
-          mul-up-to 1_024 12 (unsigned occupancy ⊘ g) (double lanes)
+    by true true in-flow true true in-occupancy = (
+      unsigned-up-to 20_000 (lit≤ tt) flow in-flow,
+      mul-up-to 1_024 12 (unsigned occupancy ⊘ g) (double lanes)
           (div-up-to 1 1_024 (unsigned occupancy) g (unsigned-up-to 1 (lit≤ tt) occupancy in-occupancy) (vehicle-least g vehicle) (lit≤ tt))
           (lanes-up-to lanes many) (lit≤ tt),
-        )
+    )
 
 -- ---- the row values of a sound diagram
 

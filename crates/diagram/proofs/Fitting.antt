@@ -1,6 +1,6 @@
 -- Number 10 and the diagram, from the sums that the code found. A free stretch that is empty, or no sample above critical,
 -- leaves a sum of squares at zero. Assumes nothing.
-use mathlib.Core.Path.{_≡_, refl, sym, ap, _∙_}
+use mathlib.Core.Path.{_≡_, refl, sym}
 use mathlib.Core.Bool.{Bool, true, false, not, _&&_, _||_, false≢true}
 use mathlib.Core.List.{List, [], _∷_}
 use lib.Ieee.{Float, ofInt, eq}

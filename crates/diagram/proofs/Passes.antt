@@ -5,8 +5,8 @@ use mathlib.Core.Bool.{Bool, true, false}
 use mathlib.Core.List.{List, [], _∷_, foldl}
 use native.Mathlib.Numerals.{add-one}
 use native.Mathlib.Omega.{arith}
-use lib.Ieee.{Float, nan}
-use lib.ListN.{length, getD, take, drop}
+use lib.Ieee.{Float}
+use lib.ListN.{length, getD}
 use lib.Seq.{drop-cons, take-length}
 use Rattle.whole.specs.Search.{pick}
 use Rattle.whole.proofs.Lists.{build-length, build-at}
@@ -17,7 +17,7 @@ use Rattle.diagram.specs.declared.Cause.the-variants.{FlowNotFinite}
 use Rattle.diagram.specs.declared.Sums.{Sums}
 use Rattle.diagram.specs.Doubles.{double}
 use Rattle.diagram.specs.Samples.{sampleAt, samples, stretch}
-use Rattle.diagram.specs.Diagrams.{adds, larger, isAbove, above, addsAbove}
+use Rattle.diagram.specs.Diagrams.{adds, isAbove, above, addsAbove}
 
 -- the samples of two lists
 pub samples-length : (settings : Settings) (flow occupancy : List Float) → length (samples settings flow occupancy) ≡ length flow

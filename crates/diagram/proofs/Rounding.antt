@@ -1,9 +1,9 @@
 -- Rounding down: what the limits of a row value say over whole numbers, and that the shifted mantissa is the largest whole
 -- number not above the double. Assumes nothing.
-use Prim.Native.Nat.{ℕ, _+_, _-_, _*_, _/_, _%_, _^_, _≤_, _<_, min}
-use mathlib.Core.Path.{_≡_, refl, sym, ap, _∙_, subst}
+use Prim.Native.Nat.{ℕ, _+_, _-_, _*_, _/_, _^_, _≤_, _<_, min}
+use mathlib.Core.Path.{_≡_, refl, sym, _∙_, subst}
 use mathlib.Core.Bool.{Bool, true, false, not}
-use native.Mathlib.Nat.{le-trans, le-of-eq, lt-of-lt-of-le, mul-one, mul-comm, mul-assoc, mul-right-comm, mul-le-mul-right, mul-lt-mul-of-pos-right, mul-pos, le-of-mul-le-mul-right, mod-eq-of-lt, div-lt-iff-lt-mul, le-div-iff-mul-le, div-le-of-le-mul}
+use native.Mathlib.Nat.{le-trans, le-of-eq, lt-of-lt-of-le, mul-comm, mul-right-comm, mul-le-mul-right, mul-lt-mul-of-pos-right, mod-eq-of-lt, div-lt-iff-lt-mul, le-div-iff-mul-le, div-le-of-le-mul}
 use native.Mathlib.Omega.{arith}
 use lib.Dec.{T, lit≤, lit<, lt→ltb}
 use lib.Pow.{pow-pos}

@@ -1,15 +1,15 @@
 -- Doubles that are not negative, and how sums, products and quotients keep them so, below a bound. Assumes nothing.
 use Prim.Native.Nat.{ℕ, zero, suc, _+_, _-_, _*_, _^_, _≤_, _<_}
-use mathlib.Core.Path.{_≡_, refl, sym, ap, _∙_, subst}
+use mathlib.Core.Path.{_≡_, sym, ap, _∙_}
 use mathlib.Core.Logic.{_⊎_, inl, inr}
 use mathlib.Core.Bool.{Bool, true, false, not, _&&_, _||_, cond, true≢false, false≢true}
-use native.Mathlib.Nat.{le-trans, le-of-eq, le-of-lt, lt-of-lt-of-le, mul-one, mul-comm, mul-assoc, mul-right-comm, mul-mul-mul-comm, mul-le-mul, mul-le-mul-left, mul-le-mul-right, mul-pos, add-mul, zero-mul, le-of-mul-le-mul-right}
+use native.Mathlib.Nat.{le-trans, le-of-eq, le-of-lt, mul-one, mul-comm, mul-assoc, mul-right-comm, mul-mul-mul-comm, mul-le-mul, mul-le-mul-right, mul-pos, add-mul, le-of-mul-le-mul-right}
 use native.Mathlib.Omega.{arith}
-use borrow.Author.Tests.{lt-ltb, le-ltb, ltb-true, ltb-false, eq-eqb, ne-eqb}
+use borrow.Author.Tests.{le-ltb, ltb-true, ltb-false, eq-eqb, ne-eqb}
 use lib.IntN.{ℤ}
-use lib.Dec.{T, ltb, leb, eqb, ltb→lt, lt→ltb, eqb→eq, lit≤, lit<}
+use lib.Dec.{T, ltb, eqb, ltb→lt, lt→ltb, eqb→eq, lit<}
 use lib.Ieee.{Float, nan, inf, fin, binary64, up, down, prec, low, emax, units, odd, round, add, sub, neg, mul, div, sum, lt, le, eq, ofInt}
-use lib.Ieee.Fits.{up-pos, down-pos, core, round-is}
+use lib.Ieee.Fits.{up-pos, down-pos, round-is}
 use lib.Ieee.Exact.{HasValue, odd-sign}
 use lib.Ieee.Order.{round-mono}
 use lib.Ieee.Back.{round-whole}
@@ -86,8 +86,9 @@ unfolding le lt eq
 le-at-most m n e d h =
     elim
     (either (ltb (m * up e * down d) (n * up d * down e)) (eqb (m * up e * down d) (n * up d * down e)) h) [
-    inl l ↦ le-of-lt (ltb→lt (m * up e * down d) (n * up d * down e) l) |
-    inr s ↦ le-of-eq (eqb→eq (m * up e * down d) (n * up d * down e) s) ]
+      | inl l ↦ le-of-lt (ltb→lt (m * up e * down d) (n * up d * down e) l)
+      | inr s ↦ le-of-eq (eqb→eq (m * up e * down d) (n * up d * down e) s)
+    ]
 
 -- what is at most a double that is at most a whole number is at most that number
 crossed : (p u q v most : ℕ) → 0 < v → p * v ≤ q * u → q ≤ most * v → p ≤ most * u

@@ -3,7 +3,7 @@
 use mathlib.Core.Path.{_≡_, refl, sym, _∙_}
 use mathlib.Core.Bool.{Bool, true, false, not, _&&_}
 use borrow.Author.Tests.{not-true, not-false}
-use lib.Ieee.{Float, nan, inf, fin, binary64, ofBits, ofInt, div, neg, lt}
+use lib.Ieee.{Float, nan, inf, fin, lt}
 use Rattle.diagram.specs.Doubles.{finite}
 
 -- r is what the code found of a test, and `if !r` went one way or the other

@@ -2,7 +2,7 @@
 -- worked out by the definitions. Assumes nothing.
 use mathlib.Core.Path.{_≡_, refl}
 use mathlib.Core.List.{List, [], _∷_}
-use lib.Ieee.{Float, binary64, ofInt, add, sub, mul, div, lt, le, eq}
+use lib.Ieee.{Float, ofInt, add, sub, mul, div, lt, le, eq}
 use Rattle.corridor.specs.Checks.{orLater}
 use Rattle.diagram.specs.declared.Settings.{Settings}
 use Rattle.diagram.specs.declared.Diagram.{Diagram}

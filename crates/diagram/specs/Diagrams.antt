@@ -50,7 +50,7 @@ abbrev pub above : Float → List Sample → List Sample
 above critical [] = []
 above critical (sample ∷ rest) = pick (isAbove critical sample) (sample ∷ above critical rest) (above critical rest)
 
--- the same sum in one pass over all samples
+-- a step of such a sum, in a pass over all samples
 abbrev pub addsAbove : Float → (Float → Float → Float) → Float → Sample → Float
 addsAbove critical term total sample = pick (isAbove critical sample) (adds term total sample) total
 
@@ -88,6 +88,6 @@ fits free all =
     && not (isZero (diagram .wave))
     && not (isEmpty (above (diagram .critical) all))
 
--- the free stretch and all samples of two lists
+-- the free stretch of two lists
 abbrev pub freeOf : Settings → List Float → List Float → List Sample
 freeOf settings flow occupancy = stretch (settings .start) (settings .end) (samples settings flow occupancy)

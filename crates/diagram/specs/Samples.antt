@@ -1,6 +1,6 @@
 -- Document 01, "Calibration": the settings, and how a sample is read.
 use Prim.Native.Nat.{ℕ, _-_}
-use mathlib.Core.Bool.{Bool, true, false, _&&_}
+use mathlib.Core.Bool.{Bool, true, false}
 use mathlib.Core.List.{List}
 use lib.Ieee.{Float, nan}
 use lib.ListN.{length, getD, take, drop}

@@ -4,14 +4,13 @@ ghost use mathlib.Core.Path.{_≡_};
 ghost use Prim.Native.Nat.{_+_, _<_};
 ghost use lib.ListN.{length};
 ghost use Rattle.corridor.specs.Checks.{least, answer};
-ghost use Rattle.diagram.specs.Samples.{vehicleFits, cellFits, usable};
-ghost use Rattle.diagram.specs.RowNumbers.{valueFits};
+ghost use Rattle.diagram.specs.Samples.{usable};
 ghost use Rattle.diagram.specs.Calibration.{lengthsFit, cellSettingsFit, settingsFit, samplesUsable, sampleChecks, valuesFit};
 use crate::RowValues;
 use crate::Sample;
 use crate::Settings;
+use crate::doubles::between;
 use crate::read_sample;
-use crate::samples::between;
 use corridor::Answer;
 use corridor::Refusal;
 

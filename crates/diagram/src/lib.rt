@@ -9,8 +9,8 @@ ghost use Rattle.diagram.specs.Samples.{sampleOf};
 ghost use Rattle.diagram.specs.Calibration.{diagramFits, valuesFit, fittedDiagram, fitAs, rowAs, fitOf, rowOf, calibrationOf};
 
 mod checks;
+mod doubles;
 mod row;
-mod samples;
 mod totals;
 
 use corridor::Answer;
@@ -90,20 +90,20 @@ pub enum Calibration {
 pub fn read_sample(g: f64, lanes: u32, flow: f64, occupancy: f64) -> Sample
     ensures { λ r. ⌜ r ≡ sampleOf g lanes flow occupancy ⌝ }
 {
-    if !samples::finite(flow) {
+    if !doubles::finite(flow) {
         return Sample::Unusable(Cause::FlowNotFinite);
     }
-    if !samples::between(0.0, 20_000.0, flow) {
+    if !doubles::between(0.0, 20_000.0, flow) {
         return Sample::Unusable(Cause::FlowOutOfRange);
     }
-    if !samples::finite(occupancy) {
+    if !doubles::finite(occupancy) {
         return Sample::Unusable(Cause::OccupancyNotFinite);
     }
-    if !samples::between(0.0, 1.0, occupancy) {
+    if !doubles::between(0.0, 1.0, occupancy) {
         return Sample::Unusable(Cause::OccupancyOutOfRange);
     }
-    let density = (samples::unsigned(occupancy) / g) * (lanes as f64);
-    Sample::Good(samples::unsigned(flow), density)
+    let density = (doubles::unsigned(occupancy) / g) * (lanes as f64);
+    Sample::Good(doubles::unsigned(flow), density)
 }
 
 // Number 10, and the diagram where it does not apply. A free stretch that is empty, and no sample above critical, leave

@@ -2,7 +2,6 @@
 ghost use mathlib.Core.Path.{_≡_};
 ghost use mathlib.Core.Bool.{true};
 ghost use Rattle.diagram.specs.RowNumbers.{share, rowValues, rowNumbers, LargestNotAbove, valueFits};
-ghost use Rattle.diagram.specs.Calibration.{fitAs};
 use crate::Diagram;
 use crate::RowNumbers;
 use crate::RowValues;

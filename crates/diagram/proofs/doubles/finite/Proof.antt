@@ -1,8 +1,8 @@
--- `diagram::samples::finite` meets its contract. Assumes nothing.
+-- `diagram::doubles::finite` meets its contract. Assumes nothing.
 use lib.Ieee.{ofBits, div, neg}
 use Rattle.diagram.proofs.Tests.{between-infinities}
-use Rattle.diagram.proofs.samples.finite.Statement.{statement}
-use Rattle.diagram.proofs.samples.finite.Tie as tie
+use Rattle.diagram.proofs.doubles.finite.Statement.{statement}
+use Rattle.diagram.proofs.doubles.finite.Tie as tie
 
 returns : tie.Need-returns
 unfolding ofBits div neg

@@ -1,7 +1,7 @@
--- `diagram::samples::unsigned` meets its contract. Assumes nothing.
+-- `diagram::doubles::unsigned` meets its contract. Assumes nothing.
 use lib.Ieee.{ofBits, ofInt}
-use Rattle.diagram.proofs.samples.unsigned.Statement.{statement}
-use Rattle.diagram.proofs.samples.unsigned.Tie as tie
+use Rattle.diagram.proofs.doubles.unsigned.Statement.{statement}
+use Rattle.diagram.proofs.doubles.unsigned.Tie as tie
 
 returns : tie.Need-returns
 unfolding ofBits ofInt
