@@ -90,20 +90,32 @@ lanes-up-to lanes h =
     let most = leb-true lanes 12 (both-hold (leb 1 lanes) (leb lanes 12) h .1) in
     up-to-more lanes 12 (double lanes) (double-up-to lanes (le-trans most (lit≤ tt))) most
 
-usual-sample : (g : Float) (lanes : ℕ) (flow occupancy : Float) → vehicleFits g ≡ true → lanesFit lanes ≡ true → Of Usual (sampleOf g lanes flow occupancy)
+-- what holds of a flow and an occupancy in range holds of the sample that is read from them
+of-sample : (fact : Float → Float → Type 0) (g : Float) (lanes : ℕ) (flow occupancy : Float) → (flowInRange flow ≡ true → occupancyInRange occupancy ≡ true → fact (unsigned flow) (density g lanes (unsigned occupancy))) → Of fact (sampleOf g lanes flow occupancy)
 unfolding sampleOf
-usual-sample g lanes flow occupancy vehicle many = by (finite flow) (flowInRange flow) refl (finite occupancy) (occupancyInRange occupancy) refl
+of-sample fact g lanes flow occupancy holds = by (finite flow) (flowInRange flow) refl (finite occupancy) (occupancyInRange occupancy) refl
   where
-    by : (a b : Bool) → flowInRange flow ≡ b → (c d : Bool) → occupancyInRange occupancy ≡ d → Of Usual (pick a (pick b (pick c (pick d (Good (unsigned flow) (density g lanes (unsigned occupancy))) (Unusable OccupancyOutOfRange)) (Unusable OccupancyNotFinite)) (Unusable FlowOutOfRange)) (Unusable FlowNotFinite))
+    by : (a b : Bool) → flowInRange flow ≡ b → (c d : Bool) → occupancyInRange occupancy ≡ d → Of fact (pick a (pick b (pick c (pick d (Good (unsigned flow) (density g lanes (unsigned occupancy))) (Unusable OccupancyOutOfRange)) (Unusable OccupancyNotFinite)) (Unusable FlowOutOfRange)) (Unusable FlowNotFinite))
     by false b in-flow c d in-occupancy = tt
     by true false in-flow c d in-occupancy = tt
     by true true in-flow false d in-occupancy = tt
     by true true in-flow true false in-occupancy = tt
-    by true true in-flow true true in-occupancy = (
+    by true true in-flow true true in-occupancy = holds in-flow in-occupancy
+
+-- under any settings, the flow of a usable sample is from 0 to 20,000 and is not minus zero
+pub good-flow : (g : Float) (lanes : ℕ) (flow occupancy : Float) → Of (λ f d. UpTo 20_000 f) (sampleOf g lanes flow occupancy)
+good-flow g lanes flow occupancy =
+    of-sample (λ f d. UpTo 20_000 f) g lanes flow occupancy (λ in-flow in-occupancy. unsigned-up-to 20_000 (lit≤ tt) flow in-flow)
+
+-- under settings in range, its density is from 0 to 12,288 and is not minus zero
+pub usual-sample : (g : Float) (lanes : ℕ) (flow occupancy : Float) → vehicleFits g ≡ true → lanesFit lanes ≡ true → Of Usual (sampleOf g lanes flow occupancy)
+usual-sample g lanes flow occupancy vehicle many =
+    of-sample Usual g lanes flow occupancy λ in-flow in-occupancy. (
       unsigned-up-to 20_000 (lit≤ tt) flow in-flow,
       mul-up-to 1_024 12 (unsigned occupancy ⊘ g) (double lanes)
           (div-up-to 1 1_024 (unsigned occupancy) g (unsigned-up-to 1 (lit≤ tt) occupancy in-occupancy) (vehicle-least g vehicle) (lit≤ tt))
-          (lanes-up-to lanes many) (lit≤ tt),
+          (lanes-up-to lanes many)
+          (lit≤ tt),
     )
 
 -- ---- the row values of a sound diagram
