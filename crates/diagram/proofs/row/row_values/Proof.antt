@@ -1,0 +1,25 @@
+-- `diagram::row::row_values` meets its contract. Assumes nothing.
+use mathlib.Core.Path.{ap₂}
+use borrow.Author.Needs.{needs}
+use lib.Ieee.{ofBits, ofInt}
+use Rattle.diagram.specs.RowNumbers.{rowValues}
+use Rattle.diagram.proofs.row.row_values.Statement.{statement}
+use Rattle.diagram.proofs.row.row_values.Tie as tie
+
+share-requires : tie.Need-share-requires
+share-requires c κs = search needs
+
+share-requires-2 : tie.Need-share-requires-2
+share-requires-2 c κs = search needs
+
+int-to-float-t6 : tie.Need-int-to-float-t6
+int-to-float-t6 c = search needs
+
+returns : tie.Need-returns
+unfolding ofBits ofInt
+returns c = let given = c .before .before .before .before .before .args in
+    let values = rowValues (given .diagram) (given .period) (given .cell) in
+    ap₂ (λ v w. record { v = v; w = w; capacity = values .capacity; jam = values .jam }) (c .before .before .before .before .share .ensures) (c .before .before .before .share2 .ensures)
+
+pub row-values-spec : {M : Type 1} → statement M
+row-values-spec = tie.close (tie.spec share-requires share-requires-2 int-to-float-t6 returns)

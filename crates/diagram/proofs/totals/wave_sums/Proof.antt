@@ -1,0 +1,78 @@
+-- `diagram::totals::wave_sums` meets its contract. Assumes nothing.
+use Prim.Native.Nat.{_-_}
+use mathlib.Core.Path.{ap₂}
+use borrow.Author.Needs.{needs}
+use lib.Ieee.{ofBits, ofInt}
+use Rattle.diagram.specs.Diagrams.{gapByExcess, excessSquared}
+use Rattle.diagram.specs.Samples.{samples}
+use Rattle.diagram.proofs.Passes.{Passing, summingAbove, begins, goes-on, ends-whole, sums-of}
+use Rattle.diagram.proofs.totals.wave_sums.Statement.{statement}
+use Rattle.diagram.proofs.totals.wave_sums.Tie as tie
+
+abbrev Inv-loop : tie.InvT-loop
+Inv-loop flow occupancy settings capacity critical n gaps₀ excesses₀ i₀ gaps excesses i = Passing (summingAbove critical (gapByExcess capacity critical)) (samples settings flow occupancy) 0 n i gaps
+    × Passing (summingAbove critical (excessSquared critical)) (samples settings flow occupancy) 0 n i excesses
+
+abbrev μ-loop : tie.MeasureT-loop
+μ-loop flow occupancy settings capacity critical n gaps₀ excesses₀ i₀ gaps excesses i = n - i
+
+loop-holds : tie.Need-loop-holds Inv-loop μ-loop
+unfolding ofBits ofInt
+loop-holds c = (begins _ _ _ _, begins _ _ _ _)
+
+mul-read-sample : tie.Need-mul-read-sample Inv-loop μ-loop
+mul-read-sample c = search needs
+
+shared-slice-read-read-sample : tie.Need-shared-slice-read-read-sample Inv-loop μ-loop
+shared-slice-read-read-sample c = search needs
+
+mul-read-sample-2 : tie.Need-mul-read-sample-2 Inv-loop μ-loop
+mul-read-sample-2 c = search needs
+
+shared-slice-read-read-sample-2 : tie.Need-shared-slice-read-read-sample-2 Inv-loop μ-loop
+shared-slice-read-read-sample-2 c = search needs
+
+read-sample-requires : tie.Need-read-sample-requires Inv-loop μ-loop
+read-sample-requires c κs = search needs
+
+plus-gap-by-excess-requires : tie.Need-plus-gap-by-excess-requires Inv-loop μ-loop
+plus-gap-by-excess-requires c κs = search needs
+
+plus-excess-squared-requires : tie.Need-plus-excess-squared-requires Inv-loop μ-loop
+plus-excess-squared-requires c κs = search needs
+
+add-i : tie.Need-add-i Inv-loop μ-loop
+add-i c = search needs
+
+loop-less : tie.Need-loop-less Inv-loop μ-loop
+loop-less c = search needs
+
+loop-again : tie.Need-loop-again Inv-loop μ-loop
+loop-again c = let lists = c .before .before .before .before .before .before .before .before .before .args in
+    let read = (c .before .before .read-sample .ensures) in (
+      goes-on (lists .settings) (lists .flow .now) (lists .occupancy .now) (c .before .before .before .before .before .before .loop .inv .0) (search needs) (search needs) read (c .before .plus-gap-by-excess .ensures),
+      goes-on (lists .settings) (lists .flow .now) (lists .occupancy .now) (c .before .before .before .before .before .before .loop .inv .1) (search needs) (search needs) read (c .plus-excess-squared .ensures),
+    )
+
+returns : tie.Need-returns Inv-loop μ-loop
+returns c = let lists = c .before .before .before .before .args in
+    ap₂ sums-of (ends-whole (lists .settings) (lists .flow .now) (lists .occupancy .now) (c .before .loop .inv .0) (search needs)) (ends-whole (lists .settings) (lists .flow .now) (lists .occupancy .now) (c .before .loop .inv .1) (search needs))
+
+pub wave-sums-spec : {M : Type 1} → statement M
+wave-sums-spec =
+    tie.close
+    (tie.spec
+    Inv-loop
+    μ-loop
+    loop-holds
+    mul-read-sample
+    shared-slice-read-read-sample
+    mul-read-sample-2
+    shared-slice-read-read-sample-2
+    read-sample-requires
+    plus-gap-by-excess-requires
+    plus-excess-squared-requires
+    add-i
+    loop-less
+    loop-again
+    returns)

@@ -1,0 +1,5 @@
+pub mod Doubles
+pub mod Samples
+pub mod Diagrams
+pub mod RowNumbers
+pub mod Calibration

@@ -1,0 +1,183 @@
+// Calibration: detector samples of flow and occupancy become a triangular diagram, and the diagram the four numbers v, w,
+// F and J of a cell row. Every sum and quotient is rounded once, in document 01's order.
+ghost use mathlib.Core.Path.{_≡_};
+ghost use Prim.Native.Nat.{_≤_};
+ghost use mathlib.Core.List.{[], _∷_};
+ghost use lib.ListN.{length};
+ghost use Rattle.corridor.specs.Checks.{answer};
+ghost use Rattle.diagram.specs.Samples.{sampleOf};
+ghost use Rattle.diagram.specs.Calibration.{diagramFits, valuesFit, fittedDiagram, fitAs, rowAs, fitOf, rowOf, calibrationOf};
+
+mod checks;
+mod doubles;
+mod row;
+mod totals;
+
+use corridor::Answer;
+use corridor::Refusal;
+
+// What a calibration is told beside its samples: the effective vehicle length g in miles, the lanes, the period T in whole
+// seconds, the cell's length L in miles, and the stretch of samples in free flow, counted from 0, the end not included.
+pub struct Settings {
+    pub g: f64,
+    pub lanes: u32,
+    pub period: u32,
+    pub cell: f64,
+    pub start: usize,
+    pub end: usize,
+}
+
+// Why a sample is unusable: the first of these that applies.
+pub enum Cause {
+    FlowNotFinite,
+    FlowOutOfRange,
+    OccupancyNotFinite,
+    OccupancyOutOfRange,
+}
+
+// A sample as it is read: a flow with a density, or the cause.
+pub enum Sample {
+    Good(f64, f64),
+    Unusable(Cause),
+}
+
+// Two sums over the same samples, the one to be divided by the other.
+pub struct Sums {
+    pub top: f64,
+    pub bottom: f64,
+}
+
+pub struct Diagram {
+    pub speed: f64,
+    pub capacity: f64,
+    pub critical: f64,
+    pub wave: f64,
+    pub jam: f64,
+}
+
+// v, w, F and J before rounding.
+pub struct RowValues {
+    pub v: f64,
+    pub w: f64,
+    pub capacity: f64,
+    pub jam: f64,
+}
+
+// v, w, F and J of a cell row.
+pub struct RowNumbers {
+    pub v: u32,
+    pub w: u32,
+    pub capacity: u32,
+    pub jam: u32,
+}
+
+pub enum FitAnswer {
+    Fitted(Diagram),
+    NotFitted(Refusal),
+}
+
+pub enum RowAnswer {
+    Made(RowNumbers),
+    NotMade(Refusal),
+}
+
+pub enum Calibration {
+    Calibrated(Diagram, RowNumbers),
+    NotCalibrated(Refusal),
+}
+
+// Reads one sample.
+pub fn read_sample(g: f64, lanes: u32, flow: f64, occupancy: f64) -> Sample
+    ensures { λ r. ⌜ r ≡ sampleOf g lanes flow occupancy ⌝ }
+{
+    if !doubles::finite(flow) {
+        return Sample::Unusable(Cause::FlowNotFinite);
+    }
+    if !doubles::between(0.0, 20_000.0, flow) {
+        return Sample::Unusable(Cause::FlowOutOfRange);
+    }
+    if !doubles::finite(occupancy) {
+        return Sample::Unusable(Cause::OccupancyNotFinite);
+    }
+    if !doubles::between(0.0, 1.0, occupancy) {
+        return Sample::Unusable(Cause::OccupancyOutOfRange);
+    }
+    let density = (doubles::unsigned(occupancy) / g) * (lanes as f64);
+    Sample::Good(doubles::unsigned(flow), density)
+}
+
+// Number 10, and the diagram where it does not apply. A free stretch that is empty, and no sample above critical, leave
+// their sum of squares at zero, so no test of their own is made of these two.
+fn fit_samples(flow: &[f64], occupancy: &[f64], settings: Settings) -> FitAnswer
+    requires { ⌜ length (now flow) ≡ length (now occupancy) ⌝ }
+    requires { ⌜ settings .end ≤ length (now flow) ⌝ }
+    ensures { λ r. ⌜ r ≡ fitAs (answer (diagramFits settings (now (flow .entry)) (now (occupancy .entry)) ∷ [])) (fittedDiagram settings (now (flow .entry)) (now (occupancy .entry))) ⌝ }
+{
+    let free = totals::speed_sums(flow, occupancy, settings);
+    let speed = free.top / free.bottom;
+    let capacity = totals::largest_flow(flow, occupancy, settings);
+    let critical = capacity / speed;
+    let over = totals::wave_sums(flow, occupancy, settings, capacity, critical);
+    let wave = over.top / over.bottom;
+    let jam = critical + capacity / wave;
+    if (free.bottom == 0.0) | (speed == 0.0) | (over.bottom == 0.0) | (wave == 0.0) {
+        return FitAnswer::NotFitted(Refusal::Fit);
+    }
+    FitAnswer::Fitted(Diagram {
+        speed,
+        capacity,
+        critical,
+        wave,
+        jam,
+    })
+}
+
+// Fits a diagram to samples, or refuses with number 1, 9 or 10.
+pub fn fit(flow: &[f64], occupancy: &[f64], settings: Settings) -> FitAnswer
+    ensures { λ r. ⌜ r ≡ fitOf settings (now (flow .entry)) (now (occupancy .entry)) ⌝ }
+{
+    let found = checks::accept_samples(flow, occupancy, settings);
+    if let Answer::Refused(refusal) = found {
+        return FitAnswer::NotFitted(refusal);
+    }
+    fit_samples(flow, occupancy, settings)
+}
+
+// Number 11, and the row numbers where it does not apply.
+fn round_values(values: RowValues) -> RowAnswer
+    ensures { λ r. ⌜ r ≡ rowAs (answer (valuesFit values ∷ [])) values ⌝ }
+{
+    let at = checks::values_fit(values);
+    if at < 4 {
+        return RowAnswer::NotMade(Refusal::RowValue(at + 1));
+    }
+    RowAnswer::Made(row::row_numbers(values))
+}
+
+// Makes v, w, F and J of a diagram for the period T and the cell length L, or refuses with number 9 or 11.
+pub fn make_row(diagram: Diagram, period: u32, cell: f64) -> RowAnswer
+    ensures { λ r. ⌜ r ≡ rowOf diagram period cell ⌝ }
+{
+    if !checks::cell_settings_fit(period, cell) {
+        return RowAnswer::NotMade(Refusal::Sample(0));
+    }
+    round_values(row::row_values(diagram, period, cell))
+}
+
+// From samples to the diagram and the row numbers, or refuses with number 1, 9, 10 or 11.
+pub fn calibrate(flow: &[f64], occupancy: &[f64], settings: Settings) -> Calibration
+    ensures { λ r. ⌜ r ≡ calibrationOf settings (now (flow .entry)) (now (occupancy .entry)) ⌝ }
+{
+    let fitted = fit(flow, occupancy, settings);
+    match fitted {
+        FitAnswer::NotFitted(refusal) => Calibration::NotCalibrated(refusal),
+        FitAnswer::Fitted(diagram) => {
+            let values = row::row_values(diagram, settings.period, settings.cell);
+            let made = round_values(values);
+            match made {
+                RowAnswer::NotMade(refusal) => Calibration::NotCalibrated(refusal),
+                RowAnswer::Made(numbers) => Calibration::Calibrated(diagram, numbers),
+            }
+        }
+    }
+}

@@ -1,0 +1,137 @@
+// The sums and the largest flow of calibration: a step for each, and one pass over the samples in their order. Samples are
+// read anew in each pass, so that nothing is stored.
+ghost use mathlib.Core.Path.{_≡_};
+ghost use Prim.Native.Nat.{_≤_};
+ghost use lib.Ieee.{lt};
+ghost use lib.ListN.{length};
+ghost use Rattle.diagram.specs.Samples.{samples};
+ghost use Rattle.diagram.specs.Diagrams.{adds, flowByDensity, densitySquared, speedSums, larger, largestFlow, addsAbove, gapByExcess, excessSquared, waveSums, freeOf};
+use crate::Sample;
+use crate::Settings;
+use crate::Sums;
+use crate::read_sample;
+
+fn plus_flow_by_density(total: f64, sample: Sample) -> f64
+    ensures { λ r. ⌜ r ≡ adds flowByDensity total sample ⌝ }
+{
+    match sample {
+        Sample::Good(flow, density) => total + flow * density,
+        Sample::Unusable(_) => total,
+    }
+}
+
+fn plus_density_squared(total: f64, sample: Sample) -> f64
+    ensures { λ r. ⌜ r ≡ adds densitySquared total sample ⌝ }
+{
+    match sample {
+        Sample::Good(_, density) => total + density * density,
+        Sample::Unusable(_) => total,
+    }
+}
+
+// The two sums of speed, over the free stretch.
+pub(crate) fn speed_sums(flow: &[f64], occupancy: &[f64], settings: Settings) -> Sums
+    requires { ⌜ length (now flow) ≡ length (now occupancy) ⌝ }
+    requires { ⌜ settings .end ≤ length (now flow) ⌝ }
+    ensures { λ r. ⌜ r ≡ speedSums (freeOf settings (now (flow .entry)) (now (occupancy .entry))) ⌝ }
+{
+    let end = settings.end;
+    let mut top = 0.0;
+    let mut bottom = 0.0;
+    let mut i = settings.start;
+    while i < end {
+        let sample = read_sample(settings.g, settings.lanes, flow[i], occupancy[i]);
+        top = plus_flow_by_density(top, sample);
+        bottom = plus_density_squared(bottom, sample);
+        i += 1;
+    }
+    Sums { top, bottom }
+}
+
+fn larger_flow(most: f64, sample: Sample) -> f64
+    ensures { λ r. ⌜ r ≡ larger most sample ⌝ }
+{
+    match sample {
+        Sample::Good(flow, _) => { if most < flow { flow } else { most } }
+        Sample::Unusable(_) => most,
+    }
+}
+
+// Capacity, over all samples.
+pub(crate) fn largest_flow(flow: &[f64], occupancy: &[f64], settings: Settings) -> f64
+    requires { ⌜ length (now flow) ≡ length (now occupancy) ⌝ }
+    ensures { λ r. ⌜ r ≡ largestFlow (samples settings (now (flow .entry)) (now (occupancy .entry))) ⌝ }
+{
+    let mut most = 0.0;
+    let mut i = 0;
+    while i < flow.len() {
+        let sample = read_sample(settings.g, settings.lanes, flow[i], occupancy[i]);
+        most = larger_flow(most, sample);
+        i += 1;
+    }
+    most
+}
+
+// What "above critical" means, for both sums of wave.
+fn is_above(density: f64, critical: f64) -> bool
+    ensures { λ r. ⌜ r ≡ lt critical density ⌝ }
+{
+    density > critical
+}
+
+fn plus_gap_by_excess(total: f64, capacity: f64, critical: f64, sample: Sample) -> f64
+    ensures { λ r. ⌜ r ≡ addsAbove critical (gapByExcess capacity critical) total sample ⌝ }
+{
+    match sample {
+        Sample::Good(flow, density) => {
+            if is_above(density, critical) {
+                total + (capacity - flow) * (density - critical)
+            } else {
+                total
+            }
+        }
+        Sample::Unusable(_) => total,
+    }
+}
+
+fn plus_excess_squared(total: f64, critical: f64, sample: Sample) -> f64
+    ensures { λ r. ⌜ r ≡ addsAbove critical (excessSquared critical) total sample ⌝ }
+{
+    match sample {
+        Sample::Good(_, density) => {
+            if is_above(density, critical) {
+                total + (density - critical) * (density - critical)
+            } else {
+                total
+            }
+        }
+        Sample::Unusable(_) => total,
+    }
+}
+
+// The two sums of wave, over the samples with density above critical.
+pub(crate) fn wave_sums(
+    flow: &[f64],
+    occupancy: &[f64],
+    settings: Settings,
+    capacity: f64,
+    critical: f64,
+) -> Sums
+    requires { ⌜ length (now flow) ≡ length (now occupancy) ⌝ }
+    ensures { λ r. ⌜ r ≡ waveSums capacity critical (samples settings (now (flow .entry)) (now (occupancy .entry))) ⌝ }
+{
+    let n = flow.len();
+    let mut gaps = 0.0;
+    let mut excesses = 0.0;
+    let mut i = 0;
+    while i < n {
+        let sample = read_sample(settings.g, settings.lanes, flow[i], occupancy[i]);
+        gaps = plus_gap_by_excess(gaps, capacity, critical, sample);
+        excesses = plus_excess_squared(excesses, critical, sample);
+        i += 1;
+    }
+    Sums {
+        top: gaps,
+        bottom: excesses,
+    }
+}
