@@ -1,8 +1,6 @@
 //! Cell tables, states and demand rows, and what makes each acceptable.
 
-use crate::{
-    state_length, Answer, Refusal, COLUMNS, MOST_CELLS, MOST_FLOW, MOST_JAM, MOST_QUEUE, MOST_RAMP, ONE,
-};
+use crate::{state_length, Answer, Refusal, COLUMNS, MOST_CELLS, MOST_FLOW, MOST_JAM, MOST_QUEUE, MOST_RAMP, ONE};
 
 /// One row of a cell table, its columns by name.
 #[derive(Clone, Copy)]

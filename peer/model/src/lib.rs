@@ -6,6 +6,7 @@
 
 mod calibration;
 mod corridor;
+mod face;
 mod period;
 mod program;
 mod recut;
@@ -14,6 +15,7 @@ mod text;
 
 pub use calibration::{calibrate, fit, row_values, Cause, Diagram, RowValues, Sample, Settings};
 pub use corridor::{accept_row, accept_state, accept_table};
+pub use face::{Face, Model};
 pub use period::{period, run, RunAnswer};
 pub use program::{simulate, simulate_with, File};
 pub use recut::recut;

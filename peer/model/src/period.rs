@@ -103,13 +103,7 @@ pub fn run(table: &[u32], state: &mut [u32], demand: &[u32], sheet: &mut [u32]) 
     RunAnswer { periods, answer }
 }
 
-fn run_counting(
-    table: &[u32],
-    state: &mut [u32],
-    demand: &[u32],
-    sheet: &mut [u32],
-    periods: &mut u32,
-) -> Answer {
+fn run_counting(table: &[u32], state: &mut [u32], demand: &[u32], sheet: &mut [u32], periods: &mut u32) -> Answer {
     let rows = rows(table)?;
     let row_length = state_length(rows.len());
     shape(state.len() == row_length)?;

@@ -4,13 +4,7 @@ use crate::corridor::{ramps, ranges, rows, shape, shares, state_rules, Cell, Row
 use crate::{state_length, Answer, Refusal};
 
 /// Cuts each old cell into its count of new cells and shares its vehicles and queue out: numbers 1 to 5 and 8.
-pub fn recut(
-    old_table: &[u32],
-    old_state: &[u32],
-    pieces: &[u32],
-    new_table: &[u32],
-    new_state: &mut [u32],
-) -> Answer {
+pub fn recut(old_table: &[u32], old_state: &[u32], pieces: &[u32], new_table: &[u32], new_state: &mut [u32]) -> Answer {
     let old = rows(old_table)?;
     shape(old_state.len() == state_length(old.len()))?;
     shape(pieces.len() == old.len())?;
@@ -28,11 +22,7 @@ pub fn recut(
 }
 
 /// Each old row with the new rows it becomes. The counts must have been seen to sum to the new rows.
-fn cut<'a>(
-    old: Rows<'a>,
-    pieces: &'a [u32],
-    new: Rows<'a>,
-) -> impl Iterator<Item = (Cell, Rows<'a>)> {
+fn cut<'a>(old: Rows<'a>, pieces: &'a [u32], new: Rows<'a>) -> impl Iterator<Item = (Cell, Rows<'a>)> {
     let mut rest = new;
     old.iter().zip(pieces).map(move |(row, &count)| {
         let (mine, later) = rest.split_at(count as usize);

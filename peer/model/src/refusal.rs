@@ -18,11 +18,16 @@ impl Refusal {
     /// Number 1, which has no place.
     pub(crate) const SHAPE: Refusal = Refusal { number: 1, place: 0 };
 
-    /// One word for an answer: 0 when accepted, else the number times 2^32 plus the place.
+    /// The number times 2^32 plus the place.
+    pub fn to_word(self) -> u64 {
+        u64::from(self.number) << 32 | u64::from(self.place)
+    }
+
+    /// One word for an answer: 0 when accepted, else the refusal's.
     pub fn word<T>(answer: &Answer<T>) -> u64 {
         match answer {
             Ok(_) => 0,
-            Err(refusal) => u64::from(refusal.number) << 32 | u64::from(refusal.place),
+            Err(refusal) => refusal.to_word(),
         }
     }
 

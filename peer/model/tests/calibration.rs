@@ -2,8 +2,7 @@
 
 use model::*;
 
-const WORKED: Settings =
-    Settings { g: 1.0 / 256.0, lanes: 1, period: 10, length: 0.5, start: 0, end: 2 };
+const WORKED: Settings = Settings { g: 1.0 / 256.0, lanes: 1, period: 10, length: 0.5, start: 0, end: 2 };
 const FLOW: [f64; 3] = [960.0, 1_920.0, 960.0];
 const OCCUPANCY: [f64; 3] = [1.0 / 16.0, 1.0 / 8.0, 3.0 / 8.0];
 

@@ -55,8 +55,10 @@ fn clipped_off_ramp() {
     let mostly_off = row(&[(0, 65_536), (2, 1_000_000), (7, 7), (8, 65_535)]);
     assert_eq!(one_cell(mostly_off, [0, 4, 0], [0; 3]), ([0, 4, 0], [0, 0, 0, 0, 0]));
     // M is 1, so f is 1 and the split is 65,535, which with f is n exactly.
-    assert_eq!(one_cell(row(&[(0, 65_536), (2, 1_000_000), (3, 4_000_000), (7, 7), (8, 65_535)]), [0, 65_536, 0], [0; 3]),
-        ([0, 0, 0], [0, 1, 65_535, 0, 0]));
+    assert_eq!(
+        one_cell(row(&[(0, 65_536), (2, 1_000_000), (3, 4_000_000), (7, 7), (8, 65_535)]), [0, 65_536, 0], [0; 3]),
+        ([0, 0, 0], [0, 1, 65_535, 0, 0])
+    );
     // With v at ONE the split of what left never passes n, as f is at most n·(ONE − b)/ONE.
     let half = row(&[(0, 65_536), (2, 1_000_000), (7, 7), (8, 32_768)]);
     assert_eq!(one_cell(half, [0, 3, 0], [0; 3]), ([0, 1, 0], [0, 1, 1, 0, 0]));
