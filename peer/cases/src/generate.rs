@@ -2,7 +2,9 @@
 
 use std::collections::HashSet;
 
-use model::{sheet_length, state_length, Settings, COLUMNS, MOST_CELLS, MOST_FLOW, MOST_JAM, MOST_QUEUE, MOST_RAMP, ONE};
+use model::{
+    sheet_length, state_length, Settings, COLUMNS, MOST_CELLS, MOST_FLOW, MOST_JAM, MOST_QUEUE, MOST_RAMP, ONE,
+};
 
 use crate::{Calibrate, Case, Corridor, Recut, Rng, Texts};
 
@@ -70,12 +72,9 @@ impl Ramps {
 /// v, w, F and J of a row.
 fn any_speeds(rng: &mut Rng, kind: Kind) -> [u32; 4] {
     match kind {
-        Kind::Road => [
-            rng.within(10_000, ONE),
-            rng.within(2_000, 24_000),
-            rng.within(2_000, 40_000),
-            rng.within(8_000, 400_000),
-        ],
+        Kind::Road => {
+            [rng.within(10_000, ONE), rng.within(2_000, 24_000), rng.within(2_000, 40_000), rng.within(8_000, 400_000)]
+        }
         Kind::Edge => [rng.edge(1, ONE), rng.edge(1, ONE), rng.edge(1, MOST_FLOW), rng.edge(1, MOST_JAM)],
         Kind::Small => [rng.within(1, ONE), rng.within(1, ONE), rng.within(1, 40), rng.within(1, 60)],
     }
@@ -207,8 +206,7 @@ fn damage_length<T: Copy + Default>(rng: &mut Rng, list: &mut Vec<T>) {
 
 /// Puts one number of a table out of its range, gives its cell too large shares, or uses a ramp number again.
 fn damage_table(rng: &mut Rng, table: &mut [u32]) {
-    const MOST: [u32; COLUMNS] =
-        [ONE, ONE, MOST_FLOW, MOST_JAM, MOST_RAMP, MOST_RAMP, MOST_FLOW, MOST_RAMP, MOST_RAMP];
+    const MOST: [u32; COLUMNS] = [ONE, ONE, MOST_FLOW, MOST_JAM, MOST_RAMP, MOST_RAMP, MOST_FLOW, MOST_RAMP, MOST_RAMP];
     let cells = table.len() / COLUMNS;
     if cells == 0 {
         return;
@@ -493,11 +491,7 @@ pub fn samples(rng: &mut Rng, count: usize, free: usize, g: f64, lanes: u32) -> 
     let critical = (30.0 + 10.0 * rng.unit()).min(0.3 / g) * f64::from(lanes);
     let mut pair = |i: usize| {
         let density = if i < free { critical * rng.unit() } else { 3.0 * critical * rng.unit() };
-        let flow = if density <= critical {
-            speed * density
-        } else {
-            speed * critical - wave * (density - critical)
-        };
+        let flow = if density <= critical { speed * density } else { speed * critical - wave * (density - critical) };
         let noisy = flow * (0.97 + 0.06 * rng.unit());
         (noisy.clamp(0.0, 20_000.0), (density * g / f64::from(lanes)).clamp(0.0, 1.0))
     };
@@ -553,7 +547,7 @@ fn any_calibration(rng: &mut Rng) -> Calibrate {
         10..=29 => rng.below(2),
         _ => 2 + rng.below(30),
     };
-    let free = rng.pick(&[count / 2, count / 2, rng.below(count + 1)]);
+    let free = if rng.once_in(3) { rng.below(count + 1) } else { count / 2 };
     let (mut flow, mut occupancy) = samples(rng, count, free, settings.g, settings.lanes);
     (settings.start, settings.end) = match rng.below(12) {
         0 => (0, count),
@@ -719,9 +713,47 @@ fn any_texts(rng: &mut Rng) -> Texts {
 /// Breaks a text in one of the ways that the rules name, or nearly does.
 fn damage_text(rng: &mut Rng, text: &mut Vec<u8>) {
     const FIELDS: &[&str] = &[
-        "", "00", "01", "007", "+1", "-1", "-0", "\"1\"", "\"", " 1", "1 ", "\t1", "1.0", "1e3", "0x1", "x", "4294967295",
-        "4294967296", "4294967297", "9999999999", "10000000000", "00000000001", "0000000000", "18446744073709551616", "1,1",
-        "1,", ",1", ",", "1\r", "1\n", "1\r\n", "\r", "\n", "\u{feff}1", "\u{660}", "1\0", ";", "/", ":", "1/", "1:",
+        "",
+        "00",
+        "01",
+        "007",
+        "+1",
+        "-1",
+        "-0",
+        "\"1\"",
+        "\"",
+        " 1",
+        "1 ",
+        "\t1",
+        "1.0",
+        "1e3",
+        "0x1",
+        "x",
+        "4294967295",
+        "4294967296",
+        "4294967297",
+        "9999999999",
+        "10000000000",
+        "00000000001",
+        "0000000000",
+        "18446744073709551616",
+        "1,1",
+        "1,",
+        ",1",
+        ",",
+        "1\r",
+        "1\n",
+        "1\r\n",
+        "\r",
+        "\n",
+        "\u{feff}1",
+        "\u{660}",
+        "1\0",
+        ";",
+        "/",
+        ":",
+        "1/",
+        "1:",
     ];
     const ENDS: &[&str] =
         &["\n", "\r", "\n\r", "\r\r\n", "\r\n\r\n", "\r\n\n", "\r\n ", " \r\n", ",\r\n", "\r\n,", "", "\0", "\r\n\0"];
@@ -732,9 +764,8 @@ fn damage_text(rng: &mut Rng, text: &mut Vec<u8>) {
     match rng.below(14) {
         // a field, found by its first digit, gets another text
         0..=4 => {
-            let starts = |at: usize, text: &[u8]| {
-                text[at].is_ascii_digit() && (at == 0 || !text[at - 1].is_ascii_digit())
-            };
+            let starts =
+                |at: usize, text: &[u8]| text[at].is_ascii_digit() && (at == 0 || !text[at - 1].is_ascii_digit());
             let found: Vec<usize> = (0..text.len()).filter(|&at| starts(at, text)).collect();
             if found.is_empty() {
                 return;

@@ -203,13 +203,11 @@ fn smaller_calibration(case: Calibrate) -> impl Iterator<Item = Calibrate> {
         let simple = [0.0, 1.0, 1_000.0, 0.5, double.floor(), (double * 64.0).floor() / 64.0];
         // Only values that come earlier in the list are simpler, so that the search ends.
         let rank = simple[..4].iter().position(|&simple| simple == double).unwrap_or(6);
-        simple.into_iter().take(rank).filter(move |simple| simple.is_finite() && *simple != double).map(
-            move |simple| {
-                let mut case = whole.clone();
-                *calibration_double(&mut case, at) = simple;
-                case
-            },
-        )
+        simple.into_iter().take(rank).filter(move |simple| simple.is_finite() && *simple != double).map(move |simple| {
+            let mut case = whole.clone();
+            *calibration_double(&mut case, at) = simple;
+            case
+        })
     });
     fewer.chain(plainer).chain(simpler)
 }

@@ -97,9 +97,8 @@ fn same(
         return Ok(());
     }
     let until = Instant::now() + TIME_TO_SHRINK;
-    let differs = |case: &Case| {
-        Instant::now() < until && other(case).is_some_and(|found| found != case.model_outcome())
-    };
+    let differs =
+        |case: &Case| Instant::now() < until && other(case).is_some_and(|found| found != case.model_outcome());
     let function = NAMES[kind(&case)];
     let smallest = shrink(case, differs, usize::MAX);
     let found = other(&smallest).expect("the other side answers a case of the same function");

@@ -20,7 +20,8 @@ pub struct Options {
 
 impl Options {
     pub fn read(mut arguments: impl Iterator<Item = String>) -> Result<Options, String> {
-        let clock = SystemTime::now().duration_since(UNIX_EPOCH).map_or(1, |time| time.as_nanos() as u64 % 1_000_000_007);
+        let clock =
+            SystemTime::now().duration_since(UNIX_EPOCH).map_or(1, |time| time.as_nanos() as u64 % 1_000_000_007);
         let mut options =
             Options { cases: 100_000, seed: clock, first: 0, program: None, programs: 0, archive_less: false };
         let mut programs = None;
