@@ -549,7 +549,7 @@ fn any_calibration(rng: &mut Rng) -> Calibrate {
     };
     let free = if rng.once_in(3) { rng.below(count + 1) } else { count / 2 };
     let (mut flow, mut occupancy) = samples(rng, count, free, settings.g, settings.lanes);
-    (settings.start, settings.end) = match rng.below(12) {
+    (settings.start, settings.end) = match rng.below(24) {
         0 => (0, count),
         1 => (count, count),
         2 => (free, count),
@@ -560,7 +560,7 @@ fn any_calibration(rng: &mut Rng) -> Calibrate {
         _ => (0, free),
     };
 
-    match rng.below(12) {
+    match rng.below(20) {
         // all the values of one list equal; lists scaled down, some so far that squares round to zero
         0 if count > 0 => flow.fill(odd_double(rng, 20_000.0).abs().min(20_000.0)),
         1 if count > 0 => occupancy.fill(odd_double(rng, 1.0).abs().min(1.0)),

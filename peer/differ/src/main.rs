@@ -67,9 +67,7 @@ fn compare(options: &Options) -> Result<(), String> {
     }
 
     counts.print();
-    if cases >= 10_000 || options.archive_less {
-        counts.all_hit()?;
-    }
+    counts.all_hit(options.archive_less)?;
     let against: Vec<&str> = [library.map(|_| "the proved archive"), program.map(|_| "the program")]
         .into_iter()
         .flatten()
@@ -212,29 +210,28 @@ impl Counts {
         );
     }
 
-    /// Fails when a refusal number that a function can give was never met.
-    fn all_hit(&self) -> Result<(), String> {
-        let missed: Vec<String> = NAMES
-            .iter()
-            .zip(&self.numbers)
-            .flat_map(|(name, numbers)| {
-                let given: &[usize] = match *name {
-                    "accept_table" => &[0, 1, 2, 3, 4],
-                    "accept_state" => &[0, 1, 2, 3, 4, 5],
-                    "accept_row" | "period" | "run" => &[0, 1, 2, 3, 4, 5, 6, 7],
-                    "recut" => &[0, 1, 2, 3, 4, 5, 8],
-                    "calibrate" => &[0, 1, 9, 10, 11],
-                    _ => &[0, 1, 2, 3, 4, 5, 6, 7, 12],
-                };
-                let none: u64 = numbers.iter().sum();
-                given
-                    .iter()
-                    .filter(move |&&number| numbers[number] == 0 && none > 0)
-                    .map(move |number| format!("{number} of {name}"))
-            })
-            .collect();
-        let numbers_missed = (1..NUMBERS).filter(|&number| self.numbers.iter().all(|counts| counts[number] == 0));
-        let missed: Vec<String> = missed.into_iter().chain(numbers_missed.map(|number| number.to_string())).collect();
+    /// Fails when a function with a thousand cases never gave a number that it can give, or, where `all` is asked for, when
+    /// some number was never given.
+    fn all_hit(&self, all: bool) -> Result<(), String> {
+        let mut missed = Vec::new();
+        for (name, counts) in NAMES.iter().zip(&self.numbers) {
+            let given: &[usize] = match *name {
+                "accept_table" => &[0, 1, 2, 3, 4],
+                "accept_state" => &[0, 1, 2, 3, 4, 5],
+                "accept_row" | "period" | "run" => &[0, 1, 2, 3, 4, 5, 6, 7],
+                "recut" => &[0, 1, 2, 3, 4, 5, 8],
+                "calibrate" => &[0, 1, 9, 10, 11],
+                _ => &[0, 1, 2, 3, 4, 5, 6, 7, 12],
+            };
+            if counts.iter().sum::<u64>() >= 1_000 {
+                let none = given.iter().filter(|&&number| counts[number] == 0);
+                missed.extend(none.map(|number| format!("{number} of {name}")));
+            }
+        }
+        if all {
+            let none = (1..NUMBERS).filter(|&number| self.numbers.iter().all(|counts| counts[number] == 0));
+            missed.extend(none.map(|number| number.to_string()));
+        }
         if missed.is_empty() {
             Ok(())
         } else {
