@@ -10,10 +10,10 @@ enum { MOST_CELLS = 512, COLUMNS = 9, ONE = 65536, MOST_FLOW = 1000000, MOST_QUE
 
 typedef struct {
     uint32_t v[MOST_CELLS], w[MOST_CELLS], capacity[MOST_CELLS], jam[MOST_CELLS];
-    uint32_t x[MOST_CELLS], c[MOST_CELLS], b[MOST_CELLS], stay[MOST_CELLS];
+    uint32_t x[MOST_CELLS], c[MOST_CELLS], stay[MOST_CELLS];
     uint32_t most_on[MOST_CELLS], most_off[MOST_CELLS];
     double split[MOST_CELLS], rest[MOST_CELLS];
-    uint32_t room[MOST_CELLS + 1];
+    uint32_t room[MOST_CELLS + 1], ready[MOST_CELLS];
 } columns;
 
 static inline uint32_t least(uint32_t a, uint32_t b) { return a < b ? a : b; }
@@ -31,7 +31,6 @@ static void prepare(columns *t, const uint32_t *table, size_t cells) {
         t->jam[i] = row[3];
         t->x[i] = row[5];
         t->c[i] = row[6];
-        t->b[i] = row[8];
         t->stay[i] = ONE - row[8];
         t->most_on[i] = row[4] ? MOST_FLOW : 0;
         t->most_off[i] = row[7] && !row[8] ? MOST_FLOW : 0;
@@ -62,38 +61,45 @@ static uint64_t refusal(const columns *t, const uint32_t *state, const uint32_t 
     return 0;
 }
 
-/* One period. f·b is under 2^36 and ONE − b under 2^17, so the quotient of doubles, cut to a whole number, is the quotient
- * rounded down: where it is not whole it is at least 2^-16 under the next whole number, and is off by at most 2^-17. */
+/* One period. f·b is under 2^36 and ONE − b at most 2^16, so the quotient of doubles, cut to a whole number, is the quotient
+ * rounded down: where it is not whole it is at least 2^-16 under the next whole number, and is off by at most 2^-17. As f is
+ * at most D·(ONE − b) / ONE, f·b / (ONE − b) is at most D − f: f + s never passes n, and nothing is clipped. */
 static void step(columns *restrict t, uint32_t *restrict state, const uint32_t *restrict demand,
                  uint32_t *restrict sheet, size_t cells) {
     uint32_t *restrict count = state + 1, *restrict queue = state + 1 + cells;
     const uint32_t *restrict on = demand + 1, *restrict off = demand + 1 + cells;
     uint32_t *restrict f = sheet + 1, *restrict s = f + cells, *restrict r = s + cells, *restrict mode = r + cells;
-    uint32_t *restrict room = t->room;
+    uint32_t *restrict room = t->room, *restrict ready = t->ready;
 
+    /* Several short loops, since the compiler turns each of them into vector code and one long loop into none. */
     for (size_t i = 0; i < cells; i++) room[i] = part(t->w[i], t->jam[i] - count[i]);
+    for (size_t i = 0; i < cells; i++) ready[i] = part(t->v[i], count[i]);
     room[cells] = UINT32_MAX;
 
     uint32_t waiting = state[0] + demand[0], entry = least(waiting, room[0]);
     state[0] = waiting - entry;
     sheet[0] = entry;
 
+#pragma GCC ivdep
     for (size_t i = 0; i < cells; i++) {
-        uint32_t n = count[i], ready = part(t->v[i], n), given = least(off[i], ready);
-        uint32_t wanted = part(t->stay[i], ready) - given, most = least(t->capacity[i], room[i + 1]);
-        uint32_t flow = least(wanted, most), left = n - flow;
-        double split = (double)(int32_t)flow * t->split[i] / t->rest[i];
-        double bound = (double)(int32_t)left;
-        uint32_t out = (uint32_t)(int32_t)(split < bound ? split : bound) + given;
-        uint32_t in = queue[i] + on[i];
-        uint32_t ramp = least(least(in, part(t->x[i], t->jam[i] - n)), t->c[i]);
-        queue[i] = in - ramp;
-        f[i] = flow;
-        s[i] = out;
-        r[i] = ramp;
+        uint32_t given = least(off[i], ready[i]), most = least(t->capacity[i], room[i + 1]);
+        uint32_t wanted = part(t->stay[i], ready[i]) - given;
+        f[i] = least(wanted, most);
+        s[i] = given;
         mode[i] = wanted >= most;
-        count[i] = left - out + ramp;
     }
+#pragma GCC ivdep
+    for (size_t i = 0; i < cells; i++) {
+        uint32_t in = queue[i] + on[i];
+        uint32_t ramp = least(least(in, part(t->x[i], t->jam[i] - count[i])), t->c[i]);
+        queue[i] = in - ramp;
+        r[i] = ramp;
+    }
+#pragma GCC ivdep
+    for (size_t i = 0; i < cells; i++)
+        s[i] += (uint32_t)(int32_t)((double)(int32_t)f[i] * t->split[i] / t->rest[i]);
+#pragma GCC ivdep
+    for (size_t i = 0; i < cells; i++) count[i] += r[i] - f[i] - s[i];
     count[0] += entry;
     for (size_t i = 1; i < cells; i++) count[i] += f[i - 1];
 }

@@ -457,6 +457,16 @@ fn any_recut(rng: &mut Rng) -> Recut {
     Recut { old_table, old_state, pieces, new_table, new_state }
 }
 
+/// An accepted re-cut in which each of `cells` cells of a road becomes `pieces` pieces.
+pub fn even_recut(rng: &mut Rng, cells: usize, pieces: u32) -> Recut {
+    let old_table = table(rng, Kind::Road, cells);
+    let old_state = any_state(rng, &old_table);
+    let new_table: Vec<u32> =
+        rows(&old_table).flat_map(|row| cut_row(rng, Kind::Road, row, pieces)).flatten().collect();
+    let new_state = vec![0; state_length(new_table.len() / COLUMNS)];
+    Recut { old_table, old_state, pieces: vec![pieces; cells], new_table, new_state }
+}
+
 /// The rows that a cell is cut into, as the rules ask; `count` is at most its jam count.
 fn cut_row(rng: &mut Rng, kind: Kind, row: &[u32; COLUMNS], count: u32) -> Vec<[u32; COLUMNS]> {
     let mut jams = vec![1; count as usize];

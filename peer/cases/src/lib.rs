@@ -10,7 +10,7 @@ use std::fmt;
 
 use model::{Face, Settings};
 
-pub use generate::{demand_rows, generate, generate_program, samples, table, Kind};
+pub use generate::{demand_rows, even_recut, generate, generate_program, samples, table, Kind};
 pub use rng::Rng;
 pub use shrink::shrink;
 

@@ -25,11 +25,8 @@ fn corridor() {
     let [cells, state, demand] = ["cells.csv", "state.csv", "demand.csv"].map(text);
     let sheet = simulate(Some(&cells), Some(&state), Some(&demand));
     let sheet = String::from_utf8(sheet).unwrap();
-    let lines: Vec<Vec<u64>> = sheet
-        .lines()
-        .skip(1)
-        .map(|line| line.split(',').map(|field| field.parse().unwrap()).collect())
-        .collect();
+    let lines: Vec<Vec<u64>> =
+        sheet.lines().skip(1).map(|line| line.split(',').map(|field| field.parse().unwrap()).collect()).collect();
     assert_eq!(lines.len(), PERIODS * (CELLS + 1));
     let line = |period: usize, cell: usize| &lines[(period - 1) * (CELLS + 1) + cell];
     assert_eq!(line(PERIODS, CELLS)[..2], [PERIODS as u64, CELLS as u64]);
