@@ -9,6 +9,9 @@ use model::{read_whole, sheet_length, state_length, Face, Model, RunAnswer, Sett
 use crate::programs::EXAMPLE;
 use crate::timing::{best, print_table, ratio, time, Work};
 
+/// A run as the model and the yardstick have it.
+type Run = fn(&[u32], &mut [u32], &[u32], &mut [u32]) -> RunAnswer;
+
 /// The times of the model, the proved library and the yardstick.
 type Times = Vec<Option<Duration>>;
 
@@ -95,7 +98,7 @@ fn same(case: Case, library: Option<&dyn Face>) {
 
 fn run_times(case: &Corridor, library: Option<&dyn Face>, rounds: usize) -> Times {
     same(Case::Run(case.clone()), library);
-    let ends = |run: fn(&[u32], &mut [u32], &[u32], &mut [u32]) -> RunAnswer| {
+    let ends = |run: Run| {
         let (mut state, mut sheet) = (case.state.clone(), case.sheet.clone());
         let answer = run(&case.table, &mut state, &case.demand, &mut sheet);
         (answer, state, sheet)

@@ -213,7 +213,7 @@ fn smaller_calibration(case: Calibrate) -> impl Iterator<Item = Calibrate> {
 }
 
 fn calibration_double(case: &mut Calibrate, at: usize) -> &mut f64 {
-    if at % 2 == 0 {
+    if at.is_multiple_of(2) {
         &mut case.flow[at / 2]
     } else {
         &mut case.occupancy[at / 2]

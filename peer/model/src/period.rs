@@ -107,7 +107,7 @@ fn run_counting(table: &[u32], state: &mut [u32], demand: &[u32], sheet: &mut [u
     let rows = rows(table)?;
     let row_length = state_length(rows.len());
     shape(state.len() == row_length)?;
-    shape(demand.len() % row_length == 0 && demand.len() / row_length <= MOST_PERIODS)?;
+    shape(demand.len().is_multiple_of(row_length) && demand.len() / row_length <= MOST_PERIODS)?;
     shape(sheet.len() == sheet_length(rows.len()))?;
     table_rules(rows)?;
     state_rules(rows, state)?;

@@ -4,7 +4,7 @@ use std::io::{self, Read, Write};
 
 use crate::corridor::{row_rules, rows, state_rules, table_rules};
 use crate::period::step;
-use crate::text::{push_number, write_record, Next, Records};
+use crate::text::{decimal, write_record, Next, Records};
 use crate::{sheet_length, state_length, Refusal, COLUMNS, MOST_CELLS};
 
 /// The three files, with the numbers they have in a refusal line.
@@ -157,19 +157,26 @@ fn read_state<R: Read>(mut records: Records<R>, cells: usize) -> Result<Vec<u32>
 
 /// Appends the lines of one period: the entry's, then one for each cell.
 fn write_period(text: &mut Vec<u8>, period: u64, cells: usize, state: &[u32], sheet: &[u32]) {
+    // A line is put together from its end, where the digits of a number come first.
+    const END: usize = 2 + 5 * 11 + 4 + 20;
+    let mut bytes = [b','; END];
+    bytes[END - 2..].copy_from_slice(b"\r\n");
     let mut place = [0; 20];
-    let at = crate::text::decimal(period, &mut place);
-    let period = &place[at..];
-
+    let period = {
+        let at = decimal(period, &mut place, 20);
+        &place[at..]
+    };
     let mut line = |cell: usize, fields: [u32; 5]| {
-        text.extend_from_slice(period);
-        text.push(b',');
-        push_number(text, cell as u64);
-        for field in fields {
-            text.push(b',');
-            push_number(text, field.into());
+        let mut at = END - 2;
+        for field in fields.into_iter().rev() {
+            at = decimal(field.into(), &mut bytes, at) - 1;
+            bytes[at] = b',';
         }
-        text.extend_from_slice(b"\r\n");
+        at = decimal(cell as u64, &mut bytes, at) - 1;
+        bytes[at] = b',';
+        at -= period.len();
+        bytes[at..at + period.len()].copy_from_slice(period);
+        text.extend_from_slice(&bytes[at..]);
     };
 
     line(0, [state[0], sheet[0], 0, 0, 0]);

@@ -142,33 +142,25 @@ const PAIRS: [u8; 200] = {
     pairs
 };
 
-/// Writes the digits of `number` at the end of `place` and answers where they start.
+/// Writes the digits of `number` into `place` so that they end before `end`, and answers where they start. Ten places are
+/// enough for 32 bits, twenty for 64.
 #[inline]
-pub fn decimal(mut number: u64, place: &mut [u8; 20]) -> usize {
-    let mut at = place.len();
+pub fn decimal(mut number: u64, place: &mut [u8], mut end: usize) -> usize {
     while number >= 100 {
         let pair = (number % 100) as usize * 2;
         number /= 100;
-        at -= 2;
-        place[at..at + 2].copy_from_slice(&PAIRS[pair..pair + 2]);
+        end -= 2;
+        place[end..end + 2].copy_from_slice(&PAIRS[pair..pair + 2]);
     }
     if number >= 10 {
         let pair = number as usize * 2;
-        at -= 2;
-        place[at..at + 2].copy_from_slice(&PAIRS[pair..pair + 2]);
+        end -= 2;
+        place[end..end + 2].copy_from_slice(&PAIRS[pair..pair + 2]);
     } else {
-        at -= 1;
-        place[at] = b'0' + number as u8;
+        end -= 1;
+        place[end] = b'0' + number as u8;
     }
-    at
-}
-
-/// Appends a number's digits to a text.
-#[inline]
-pub(crate) fn push_number(text: &mut Vec<u8>, number: u64) {
-    let mut place = [0; 20];
-    let at = decimal(number, &mut place);
-    text.extend_from_slice(&place[at..]);
+    end
 }
 
 /// Appends a record and its end to a text.
@@ -177,7 +169,9 @@ pub fn write_record(text: &mut Vec<u8>, fields: impl IntoIterator<Item = u64>) {
         if i > 0 {
             text.push(b',');
         }
-        push_number(text, field);
+        let mut place = [0; 20];
+        let at = decimal(field, &mut place, 20);
+        text.extend_from_slice(&place[at..]);
     }
     text.extend_from_slice(b"\r\n");
 }

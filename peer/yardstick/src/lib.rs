@@ -18,7 +18,8 @@ extern "C" {
 pub fn run(table: &[u32], state: &mut [u32], demand: &[u32], sheet: &mut [u32]) -> RunAnswer {
     let cells = table.len() / COLUMNS;
     let row = state_length(cells);
-    let shape = demand.len() % row == 0 && demand.len() / row <= MOST_PERIODS && sheet.len() == sheet_length(cells);
+    let shape =
+        demand.len().is_multiple_of(row) && demand.len() / row <= MOST_PERIODS && sheet.len() == sheet_length(cells);
     let answer = match accept_state(table, state) {
         Err(refusal) if !shape && refusal.number > 1 => Err(Refusal { number: 1, place: 0 }),
         Ok(()) if !shape => Err(Refusal { number: 1, place: 0 }),
