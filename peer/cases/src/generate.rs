@@ -381,6 +381,7 @@ fn any_recut(rng: &mut Rng) -> Recut {
         if pieces.is_empty() || new_cells == 0 {
             break;
         }
+        let next = (at / COLUMNS + 1) % new_cells * COLUMNS;
         match rng.below(16) {
             0 => match rng.below(5) {
                 0 => damage_length(rng, &mut old_table),
@@ -392,7 +393,7 @@ fn any_recut(rng: &mut Rng) -> Recut {
             1 => damage_table(rng, &mut old_table),
             2 => damage_table(rng, &mut new_table),
             3 => damage_state(rng, &old_table, &mut old_state),
-            4 => pieces[cell] = rng.pick(&[0, pieces[cell] + 1, u32::MAX]),
+            4 => pieces[cell] = rng.pick(&[0, pieces[cell].wrapping_add(1), u32::MAX]),
             5 => {
                 // a sum that is right only when it wraps
                 let other = (cell + 1) % pieces.len();
@@ -410,10 +411,10 @@ fn any_recut(rng: &mut Rng) -> Recut {
             8 | 9 => {
                 // the jam counts sum to one more or less, or move between pieces
                 let jam = &mut new_table[at + 3];
-                *jam = if rng.once_in(2) { (*jam + 1).min(MOST_JAM) } else { (*jam - 1).max(1) };
-                let next = at + COLUMNS;
-                if rng.once_in(2) && next < new_table.len() {
-                    new_table[next + 3] = (new_table[next + 3] + 1).min(MOST_JAM);
+                *jam = if rng.once_in(2) { jam.saturating_add(1) } else { jam.saturating_sub(1) };
+                if rng.once_in(2) {
+                    let jam = &mut new_table[next + 3];
+                    *jam = if rng.once_in(2) { jam.saturating_add(1) } else { jam.saturating_sub(1) };
                 }
             }
             10 | 11 => {
@@ -437,7 +438,6 @@ fn any_recut(rng: &mut Rng) -> Recut {
             }
             14 => {
                 // the ramps of a cell on the wrong pieces
-                let next = (at + COLUMNS) % new_table.len();
                 for column in if rng.once_in(2) { 4..7 } else { 7..9 } {
                     new_table.swap(at + column, next + column);
                 }
