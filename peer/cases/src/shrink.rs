@@ -1,0 +1,270 @@
+//! The search for a small case that still differs.
+
+use model::{read_whole, state_length, write_record, Settings, COLUMNS};
+
+use crate::{Calibrate, Case, Corridor, Recut, Texts};
+
+/// Goes from a case that `differs` to smaller ones that do, as long as one is found and `tries` last.
+pub fn shrink(case: Case, mut differs: impl FnMut(&Case) -> bool, mut tries: usize) -> Case {
+    let mut smallest = case;
+    loop {
+        let mut found = None;
+        for smaller in smaller(&smallest) {
+            if tries == 0 {
+                return smallest;
+            }
+            if smaller == smallest {
+                continue;
+            }
+            tries -= 1;
+            if differs(&smaller) {
+                found = Some(smaller);
+                break;
+            }
+        }
+        match found {
+            Some(smaller) => smallest = smaller,
+            None => return smallest,
+        }
+    }
+}
+
+type Smaller = Box<dyn Iterator<Item = Case>>;
+
+fn smaller(case: &Case) -> Smaller {
+    fn corridor(case: &Corridor, wrap: fn(Corridor) -> Case) -> Smaller {
+        Box::new(smaller_corridor(case.clone()).map(wrap))
+    }
+    match case {
+        Case::Table(case) => corridor(case, Case::Table),
+        Case::State(case) => corridor(case, Case::State),
+        Case::Row(case) => corridor(case, Case::Row),
+        Case::Period(case) => corridor(case, Case::Period),
+        Case::Run(case) => corridor(case, Case::Run),
+        Case::Recut(case) => Box::new(smaller_recut(case.clone()).map(Case::Recut)),
+        Case::Calibrate(case) => Box::new(smaller_calibration(case.clone()).map(Case::Calibrate)),
+        Case::Program(case) => Box::new(smaller_texts(case.clone()).map(Case::Program)),
+    }
+}
+
+/// Ranges of 0 to `length`, the long ones first: halves, quarters and so on down to single ones.
+fn ranges(length: usize) -> impl Iterator<Item = std::ops::Range<usize>> {
+    let sizes = std::iter::successors(Some(length), |size| Some(size / 2)).take_while(|&size| size > 0);
+    sizes.flat_map(move |size| (0..length).step_by(size).map(move |at| at..(at + size).min(length)))
+}
+
+/// Smaller numbers to put in a number's place.
+fn numbers(number: u32) -> impl Iterator<Item = u32> {
+    [0, 1, number / 2, number.saturating_sub(1)].into_iter().filter(move |&smaller| smaller < number)
+}
+
+/// A list without the cells of the range, when it holds a number before `columns` numbers for each cell.
+fn without_cells(list: &[u32], cells: usize, columns: usize, range: &std::ops::Range<usize>) -> Vec<u32> {
+    if list.len() != 1 + columns * cells {
+        return list.to_vec();
+    }
+    let kept = |&(at, _): &(usize, &u32)| at == 0 || !range.contains(&((at - 1) % cells));
+    list.iter().enumerate().filter(kept).map(|(_, &number)| number).collect()
+}
+
+fn without_rows(table: &[u32], range: &std::ops::Range<usize>) -> Vec<u32> {
+    let (from, to) = (range.start * COLUMNS, range.end * COLUMNS);
+    [&table[..from], &table[to..]].concat()
+}
+
+fn smaller_corridor(case: Corridor) -> impl Iterator<Item = Corridor> {
+    let cells = case.table.len() / COLUMNS;
+    let row = state_length(cells);
+    let whole = case.clone();
+    let fewer_rows = ranges(case.demand.len() / row).map(move |range| {
+        let demand = [&whole.demand[..range.start * row], &whole.demand[range.end * row..]].concat();
+        Corridor { demand, ..whole.clone() }
+    });
+    let whole = case.clone();
+    let fewer_cells = ranges(cells).filter(move |range| range.len() < cells).map(move |range| Corridor {
+        table: without_rows(&whole.table, &range),
+        state: without_cells(&whole.state, cells, 2, &range),
+        demand: match whole.demand.len() % row {
+            0 => whole.demand.chunks(row).flat_map(|demand| without_cells(demand, cells, 2, &range)).collect(),
+            _ => whole.demand.clone(),
+        },
+        sheet: without_cells(&whole.sheet, cells, 4, &range),
+        periods: whole.periods.clone(),
+    });
+    let whole = case;
+    let smaller_numbers = (0..5).flat_map(move |list| {
+        let whole = whole.clone();
+        let length = corridor_list(&mut whole.clone(), list).len();
+        (0..length).flat_map(move |at| {
+            let whole = whole.clone();
+            numbers(corridor_list(&mut whole.clone(), list)[at]).map(move |number| {
+                let mut case = whole.clone();
+                corridor_list(&mut case, list)[at] = number;
+                case
+            })
+        })
+    });
+    fewer_rows.chain(fewer_cells).chain(smaller_numbers)
+}
+
+fn corridor_list(case: &mut Corridor, list: usize) -> &mut Vec<u32> {
+    match list {
+        0 => &mut case.table,
+        1 => &mut case.state,
+        2 => &mut case.demand,
+        3 => &mut case.sheet,
+        _ => &mut case.periods,
+    }
+}
+
+fn smaller_recut(case: Recut) -> impl Iterator<Item = Recut> {
+    let old_cells = case.old_table.len() / COLUMNS;
+    let new_cells = case.new_table.len() / COLUMNS;
+    // Old cells with the pieces that their counts give them.
+    let whole = case.clone();
+    let counted = whole.pieces.len() == old_cells;
+    let fewer_old = ranges(old_cells).filter(move |range| counted && range.len() < old_cells).map(move |range| {
+        let start = |cell: usize| {
+            let sum: u64 = whole.pieces[..cell].iter().map(|&count| u64::from(count)).sum();
+            sum.min(new_cells as u64) as usize
+        };
+        let new = start(range.start)..start(range.end);
+        Recut {
+            old_table: without_rows(&whole.old_table, &range),
+            old_state: without_cells(&whole.old_state, old_cells, 2, &range),
+            pieces: [&whole.pieces[..range.start], &whole.pieces[range.end..]].concat(),
+            new_table: without_rows(&whole.new_table, &new),
+            new_state: without_cells(&whole.new_state, new_cells, 2, &new),
+        }
+    });
+    let whole = case.clone();
+    let fewer_new = ranges(new_cells).filter(move |range| range.len() < new_cells).map(move |range| Recut {
+        new_table: without_rows(&whole.new_table, &range),
+        new_state: without_cells(&whole.new_state, new_cells, 2, &range),
+        ..whole.clone()
+    });
+    let whole = case;
+    let smaller_numbers = (0..5).flat_map(move |list| {
+        let whole = whole.clone();
+        let length = recut_list(&mut whole.clone(), list).len();
+        (0..length).flat_map(move |at| {
+            let whole = whole.clone();
+            numbers(recut_list(&mut whole.clone(), list)[at]).map(move |number| {
+                let mut case = whole.clone();
+                recut_list(&mut case, list)[at] = number;
+                case
+            })
+        })
+    });
+    fewer_old.chain(fewer_new).chain(smaller_numbers)
+}
+
+fn recut_list(case: &mut Recut, list: usize) -> &mut Vec<u32> {
+    match list {
+        0 => &mut case.old_table,
+        1 => &mut case.old_state,
+        2 => &mut case.pieces,
+        3 => &mut case.new_table,
+        _ => &mut case.new_state,
+    }
+}
+
+fn smaller_calibration(case: Calibrate) -> impl Iterator<Item = Calibrate> {
+    let count = case.flow.len().min(case.occupancy.len());
+    let whole = case.clone();
+    let fewer = ranges(count).map(move |range| {
+        let mut case = whole.clone();
+        case.flow.drain(range.clone());
+        case.occupancy.drain(range.clone());
+        for end in [&mut case.settings.start, &mut case.settings.end] {
+            *end -= range.end.min(*end) - range.start.min(*end);
+        }
+        case
+    });
+    let whole = case.clone();
+    let plain = Settings { g: 1.0 / 256.0, lanes: 1, period: 10, length: 0.5, start: 0, end: 0 };
+    let plainer = (0..6).map(move |which| {
+        let mut case = whole.clone();
+        let settings = &mut case.settings;
+        match which {
+            0 => settings.g = plain.g,
+            1 => settings.lanes = plain.lanes,
+            2 => settings.period = plain.period,
+            3 => settings.length = plain.length,
+            4 => settings.start = 0,
+            _ => settings.end = settings.end.min(settings.start + 1),
+        }
+        case
+    });
+    let whole = case;
+    let simpler = (0..2 * count).flat_map(move |at| {
+        let whole = whole.clone();
+        let double = *calibration_double(&mut whole.clone(), at);
+        let simple = [0.0, 1.0, 1_000.0, 0.5, double.floor(), (double * 64.0).floor() / 64.0];
+        // Only values that come earlier in the list are simpler, so that the search ends.
+        let rank = simple[..4].iter().position(|&simple| simple == double).unwrap_or(6);
+        simple.into_iter().take(rank).filter(move |simple| simple.is_finite() && *simple != double).map(move |simple| {
+            let mut case = whole.clone();
+            *calibration_double(&mut case, at) = simple;
+            case
+        })
+    });
+    fewer.chain(plainer).chain(simpler)
+}
+
+fn calibration_double(case: &mut Calibrate, at: usize) -> &mut f64 {
+    if at.is_multiple_of(2) {
+        &mut case.flow[at / 2]
+    } else {
+        &mut case.occupancy[at / 2]
+    }
+}
+
+fn smaller_texts(case: Texts) -> impl Iterator<Item = Texts> {
+    // Where all three texts read as numbers, what makes a run smaller makes them smaller.
+    let numbers = texts_as_run(&case).into_iter().flat_map(smaller_corridor).map(|case| run_as_texts(&case));
+    let whole = case.clone();
+    let fewer_bytes = (0..3).flat_map(move |file| {
+        let whole = whole.clone();
+        let length = whole.0[file].as_ref().map_or(0, Vec::len);
+        ranges(length).map(move |range| {
+            let mut case = whole.clone();
+            case.0[file].as_mut().expect("a text with bytes is there").drain(range);
+            case
+        })
+    });
+    let whole = case;
+    let smaller_digits = (0..3).flat_map(move |file| {
+        let whole = whole.clone();
+        let text = whole.0[file].clone().unwrap_or_default();
+        (0..text.len()).filter(move |&at| matches!(text[at], b'2'..=b'9')).map(move |at| {
+            let mut case = whole.clone();
+            case.0[file].as_mut().expect("a text with digits is there")[at] = b'1';
+            case
+        })
+    });
+    numbers.chain(fewer_bytes).chain(smaller_digits)
+}
+
+fn texts_as_run(case: &Texts) -> Option<Corridor> {
+    let [Some(cells), Some(state), Some(demand)] = &case.0 else {
+        return None;
+    };
+    let table = read_whole(cells, COLUMNS).ok()?;
+    let width = state_length(table.len() / COLUMNS);
+    let state = read_whole(state, width).ok()?;
+    let demand = read_whole(demand, width).ok()?;
+    Some(Corridor { table, state, demand, ..Corridor::default() })
+}
+
+fn run_as_texts(case: &Corridor) -> Texts {
+    let width = state_length(case.table.len() / COLUMNS);
+    let text = |numbers: &[u32], width: usize| {
+        let mut text = Vec::new();
+        for record in numbers.chunks(width) {
+            write_record(&mut text, record.iter().map(|&number| u64::from(number)));
+        }
+        Some(text)
+    };
+    Texts([text(&case.table, COLUMNS), text(&case.state, width), text(&case.demand, width)])
+}

@@ -1,0 +1,99 @@
+//! The functions as the C interface has them: slices and numbers in, one word out.
+
+use crate::{accept_row, accept_state, accept_table, calibrate, period, recut, run, Refusal, RunAnswer, Settings};
+
+/// An implementation of the model behind the C interface. Each function answers 0 for accepted, else number·2^32 + place;
+/// further results go to lent lists, and one of the wrong length is number 1.
+pub trait Face {
+    fn accept_table(&self, table: &[u32]) -> u64;
+
+    fn accept_state(&self, table: &[u32], state: &[u32]) -> u64;
+
+    fn accept_row(&self, table: &[u32], state: &[u32], demand: &[u32]) -> u64;
+
+    fn period(&self, table: &[u32], state: &mut [u32], demand: &[u32], sheet: &mut [u32]) -> u64;
+
+    /// `periods`, of length 1, gets the periods completed: 0 as well where 1 to 5 refuse the run. A list of another
+    /// length stays as it is.
+    fn run(&self, table: &[u32], state: &mut [u32], demand: &[u32], sheet: &mut [u32], periods: &mut [u32]) -> u64;
+
+    fn recut(
+        &self,
+        old_table: &[u32],
+        old_state: &[u32],
+        pieces: &[u32],
+        new_table: &[u32],
+        new_state: &mut [u32],
+    ) -> u64;
+
+    /// `diagram`, of length 5, gets speed, capacity, critical, wave and jam; `row`, of length 4, gets v, w, F and J.
+    fn calibrate(
+        &self,
+        flow: &[f64],
+        occupancy: &[f64],
+        settings: &Settings,
+        diagram: &mut [f64],
+        row: &mut [u32],
+    ) -> u64;
+}
+
+/// This crate's own functions behind the interface.
+#[derive(Clone, Copy, Debug, Default)]
+pub struct Model;
+
+impl Face for Model {
+    fn accept_table(&self, table: &[u32]) -> u64 {
+        Refusal::word(&accept_table(table))
+    }
+
+    fn accept_state(&self, table: &[u32], state: &[u32]) -> u64 {
+        Refusal::word(&accept_state(table, state))
+    }
+
+    fn accept_row(&self, table: &[u32], state: &[u32], demand: &[u32]) -> u64 {
+        Refusal::word(&accept_row(table, state, demand))
+    }
+
+    fn period(&self, table: &[u32], state: &mut [u32], demand: &[u32], sheet: &mut [u32]) -> u64 {
+        Refusal::word(&period(table, state, demand, sheet))
+    }
+
+    fn run(&self, table: &[u32], state: &mut [u32], demand: &[u32], sheet: &mut [u32], periods: &mut [u32]) -> u64 {
+        let [completed] = periods else {
+            return Refusal::SHAPE.to_word();
+        };
+        let RunAnswer { periods, answer } = run(table, state, demand, sheet);
+        *completed = periods;
+        Refusal::word(&answer)
+    }
+
+    fn recut(
+        &self,
+        old_table: &[u32],
+        old_state: &[u32],
+        pieces: &[u32],
+        new_table: &[u32],
+        new_state: &mut [u32],
+    ) -> u64 {
+        Refusal::word(&recut(old_table, old_state, pieces, new_table, new_state))
+    }
+
+    fn calibrate(
+        &self,
+        flow: &[f64],
+        occupancy: &[f64],
+        settings: &Settings,
+        diagram: &mut [f64],
+        row: &mut [u32],
+    ) -> u64 {
+        if diagram.len() != 5 || row.len() != 4 {
+            return Refusal::SHAPE.to_word();
+        }
+        let answer = calibrate(flow, occupancy, settings);
+        if let Ok((fitted, values)) = &answer {
+            diagram.copy_from_slice(&fitted.to_array());
+            row.copy_from_slice(&values.to_array());
+        }
+        Refusal::word(&answer)
+    }
+}

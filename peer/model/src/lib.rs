@@ -1,0 +1,52 @@
+//! The freeway cell model in plain Rust: acceptance, one period, a run, the re-cut, calibration and the run program.
+//!
+//! Written from the scope document alone, as an independent peer of the proved implementation. Vehicles are whole
+//! thousandths, shares are whole numbers over [`ONE`], and every list is a slice of `u32` (calibration: of `f64`).
+#![forbid(unsafe_code)]
+
+mod calibration;
+mod corridor;
+mod face;
+mod period;
+mod program;
+mod recut;
+mod refusal;
+mod text;
+
+pub use calibration::{calibrate, fit, row_values, Cause, Diagram, RowValues, Sample, Settings};
+pub use corridor::{accept_row, accept_state, accept_table};
+pub use face::{Face, Model};
+pub use period::{period, run, RunAnswer};
+pub use program::{simulate, simulate_with, File};
+pub use recut::recut;
+pub use refusal::{Answer, Refusal};
+pub use text::{decimal, read_whole, write_record, Next, Records, LONGEST_RECORD};
+
+/// The whole that shares are counted over.
+pub const ONE: u32 = 65_536;
+/// Numbers in a table row.
+pub const COLUMNS: usize = 9;
+/// The most cells a table has.
+pub const MOST_CELLS: usize = 512;
+/// The most demand rows a run takes.
+pub const MOST_PERIODS: usize = 4_096;
+/// The most samples calibration takes.
+pub const MOST_SAMPLES: usize = 65_536;
+/// The largest queue.
+pub const MOST_QUEUE: u32 = 1_000_000_000;
+/// The largest capacity, on-ramp limit and demand for one period.
+pub const MOST_FLOW: u32 = 1_000_000;
+/// The largest jam count.
+pub const MOST_JAM: u32 = 4_000_000;
+/// The largest ramp number, and the largest x and b.
+pub const MOST_RAMP: u32 = 65_535;
+
+/// Numbers in the state of `cells` cells, and in one demand row.
+pub const fn state_length(cells: usize) -> usize {
+    2 * cells + 1
+}
+
+/// Numbers in the flow sheet of `cells` cells.
+pub const fn sheet_length(cells: usize) -> usize {
+    4 * cells + 1
+}

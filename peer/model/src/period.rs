@@ -1,0 +1,120 @@
+//! One period of the model, and a run of periods.
+
+use crate::corridor::{row_rules, rows, shape, state_rules, table_rules, Cell, Rows};
+use crate::{sheet_length, state_length, Answer, MOST_PERIODS, ONE};
+
+/// `share` over ONE of `vehicles`, rounded down.
+#[inline]
+fn part(share: u32, vehicles: u32) -> u32 {
+    (u64::from(share) * u64::from(vehicles) / u64::from(ONE)) as u32
+}
+
+/// Takes an accepted state through one period of an accepted demand row and writes the period's sheet.
+///
+/// Everything is worked out from the counts at the period's start: the pass goes down the road, so the count of the next
+/// cell is still the old one when its room is asked for, and the flow from upstream is carried along.
+pub(crate) fn step(rows: Rows, state: &mut [u32], demand: &[u32], sheet: &mut [u32]) {
+    let cells = rows.len();
+    let (entry_queue, rest) = state.split_first_mut().expect("a state has an entry queue");
+    let (counts, queues) = rest.split_at_mut(cells);
+    let queues = &mut queues[..cells];
+    let (&entry_demand, rest) = demand.split_first().expect("a row has an entry demand");
+    let (on_demand, off_demand) = rest.split_at(cells);
+    let off_demand = &off_demand[..cells];
+    let (entry_flow, rest) = sheet.split_first_mut().expect("a sheet has an entry flow");
+    let (flows, rest) = rest.split_at_mut(cells);
+    let (off_flows, rest) = rest.split_at_mut(cells);
+    let (on_flows, modes) = rest.split_at_mut(cells);
+    let modes = &mut modes[..cells];
+
+    let room = |cell: &Cell, count: u32| part(cell.w, cell.jam - count);
+
+    let mut cell = Cell::of(&rows[0]);
+    let waiting = *entry_queue + entry_demand;
+    let mut inflow = waiting.min(room(&cell, counts[0]));
+    *entry_queue = waiting - inflow;
+    *entry_flow = inflow;
+
+    for i in 0..cells {
+        let count = counts[i];
+        let mut next = cell;
+        let mut most = cell.capacity;
+        if i + 1 < cells {
+            next = Cell::of(&rows[i + 1]);
+            most = most.min(room(&next, counts[i + 1]));
+        }
+
+        // `o` is 0 but for an off-ramp whose flow is given, and b is 0 but for one with a split.
+        let ready = part(cell.v, count);
+        let (wanted, flow, off_flow);
+        if cell.b == 0 {
+            off_flow = off_demand[i].min(ready);
+            wanted = ready - off_flow;
+            flow = wanted.min(most);
+        } else {
+            wanted = part(ONE - cell.b, ready);
+            flow = wanted.min(most);
+            let split = u64::from(flow) * u64::from(cell.b) / u64::from(ONE - cell.b);
+            off_flow = split.min(u64::from(count - flow)) as u32;
+        }
+
+        // Without an on-ramp the queue, the demand, x and c are all 0.
+        let waiting = queues[i] + on_demand[i];
+        let on_flow = waiting.min(part(cell.x, cell.jam - count)).min(cell.c);
+
+        counts[i] = count + inflow + on_flow - flow - off_flow;
+        queues[i] = waiting - on_flow;
+        flows[i] = flow;
+        off_flows[i] = off_flow;
+        on_flows[i] = on_flow;
+        modes[i] = u32::from(wanted >= most);
+
+        inflow = flow;
+        cell = next;
+    }
+}
+
+/// One period: accepts table, state and row (numbers 1 to 7), then moves the state and writes the flow sheet.
+pub fn period(table: &[u32], state: &mut [u32], demand: &[u32], sheet: &mut [u32]) -> Answer {
+    let rows = rows(table)?;
+    shape(state.len() == state_length(rows.len()))?;
+    shape(demand.len() == state_length(rows.len()))?;
+    shape(sheet.len() == sheet_length(rows.len()))?;
+    table_rules(rows)?;
+    state_rules(rows, state)?;
+    row_rules(rows, state, demand)?;
+    step(rows, state, demand, sheet);
+    Ok(())
+}
+
+/// What a run answers: the periods completed, and why it ended before the last row if it did.
+#[derive(Clone, Copy, Debug, PartialEq, Eq)]
+pub struct RunAnswer {
+    pub periods: u32,
+    pub answer: Answer,
+}
+
+/// A run over demand rows laid end to end, 0 to 4,096 of them.
+///
+/// Refused at a later row, it leaves the state after the completed periods and the last completed period's sheet.
+pub fn run(table: &[u32], state: &mut [u32], demand: &[u32], sheet: &mut [u32]) -> RunAnswer {
+    let mut periods = 0;
+    let answer = run_counting(table, state, demand, sheet, &mut periods);
+    RunAnswer { periods, answer }
+}
+
+fn run_counting(table: &[u32], state: &mut [u32], demand: &[u32], sheet: &mut [u32], periods: &mut u32) -> Answer {
+    let rows = rows(table)?;
+    let row_length = state_length(rows.len());
+    shape(state.len() == row_length)?;
+    shape(demand.len().is_multiple_of(row_length) && demand.len() / row_length <= MOST_PERIODS)?;
+    shape(sheet.len() == sheet_length(rows.len()))?;
+    table_rules(rows)?;
+    state_rules(rows, state)?;
+    for row in demand.chunks_exact(row_length) {
+        row_rules(rows, state, row)?;
+        step(rows, state, row, sheet);
+        *periods += 1;
+    }
+    Ok(())
+}
