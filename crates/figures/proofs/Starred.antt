@@ -5,8 +5,10 @@ use Rattle.corridor.specs.Checks.{orLater}
 use Rattle.corridor.specs.Acceptance.{rowInRange}
 use Rattle.period.specs.Cell.{M, leaving, offFlow}
 use Rattle.period.specs.Period.{flowAt, offFlowAt, onFlowAt, countAfter, entryQueueAfter, queueAfter, freeAt, sheetOf, stateAfter}
-use Rattle.figures.specs.Figures.{same, holds, allHold, road, offRamp, starred}
+use Rattle.recut.specs.Pieces.{jamBefore, piecesFit, pieceAt}
+use Rattle.recut.specs.Recut.{newCount, newQueue, newState}
+use Rattle.figures.specs.Figures.{same, plain, thirds, holds, allHold, road, offRamp, starred}
 
 pub every-starred-figure-holds : allHold starred ≡ true
-unfolding orLater rowInRange M leaving offFlow flowAt offFlowAt onFlowAt countAfter entryQueueAfter queueAfter freeAt sheetOf stateAfter same holds allHold road offRamp starred
+unfolding jamBefore piecesFit pieceAt newCount newQueue newState plain thirds orLater rowInRange M leaving offFlow flowAt offFlowAt onFlowAt countAfter entryQueueAfter queueAfter freeAt sheetOf stateAfter same holds allHold road offRamp starred
 every-starred-figure-holds = refl

@@ -8,10 +8,13 @@ use Rattle.corridor.specs.Acceptance.{rowChecks}
 use Rattle.period.specs.Sharing.{asymmetric}
 use Rattle.period.specs.Period.{sheetOf, stateAfter}
 use Rattle.period.specs.Run.{isAccepted}
+use Rattle.recut.specs.Recut.{newState, recutChecks}
 
--- a period of a table, a state and a demand row, with the sheet and the state after it
 pub data Figure : Type 0 where
+  -- a period of a table, a state and a demand row, with the sheet and the state after it
   period : List ℕ → List ℕ → List ℕ → List ℕ → List ℕ → Figure
+  -- a cell of jam count 10 that holds n, cut into pieces of 3, 3 and 4, with their vehicles
+  pieces : ℕ → List ℕ → Figure
 
 unfoldable pub same : List ℕ → List ℕ → Bool
 same [] [] = true
@@ -19,10 +22,20 @@ same [] (x ∷ xs) = false
 same (x ∷ xs) [] = false
 same (x ∷ xs) (y ∷ ys) = eqb x y && same xs ys
 
--- the period is accepted, and gives that sheet and that state
+-- a row without ramps, of the given jam count
+unfoldable pub plain : ℕ → List ℕ
+plain J = 32768 ∷ 16384 ∷ 2000 ∷ J ∷ 0 ∷ 0 ∷ 0 ∷ 0 ∷ 0 ∷ []
+
+unfoldable pub thirds : List ℕ
+thirds = plain 3 ++ plain 3 ++ plain 4
+
+-- the period or the re-cut is accepted, and gives those numbers
 unfoldable pub holds : Figure → Bool
 holds (period table state demand sheet after) =
     isAccepted (answer (rowChecks table state demand)) && same (sheetOf asymmetric table state demand) sheet && same (stateAfter asymmetric table state demand) after
+holds (pieces n shares) =
+    isAccepted (answer (recutChecks (plain 10) (0 ∷ n ∷ 0 ∷ []) (3 ∷ []) thirds (0 ∷ 0 ∷ 0 ∷ 0 ∷ 0 ∷ 0 ∷ 0 ∷ [])))
+    && same (newState (plain 10) (0 ∷ n ∷ 0 ∷ []) (3 ∷ []) thirds) (0 ∷ shares ++ (0 ∷ 0 ∷ 0 ∷ []))
 
 unfoldable pub allHold : List Figure → Bool
 allHold [] = true
@@ -50,4 +63,8 @@ starred =
     ∷ period (1 ∷ 49152 ∷ 1 ∷ 10000 ∷ 5 ∷ 16384 ∷ 1000000 ∷ 0 ∷ 0 ∷ []) (0 ∷ 9000 ∷ 2000 ∷ []) (5000 ∷ 0 ∷ 0 ∷ []) (750 ∷ 0 ∷ 0 ∷ 250 ∷ 0 ∷ []) (4250 ∷ 10000 ∷ 1750 ∷ [])
     -- v 65,535, n 1: D is 0, so nothing flows
     ∷ period (65535 ∷ 16384 ∷ 1000 ∷ 10000 ∷ 0 ∷ 0 ∷ 0 ∷ 0 ∷ 0 ∷ []) (0 ∷ 1 ∷ 0 ∷ []) (0 ∷ 0 ∷ 0 ∷ []) (0 ∷ 0 ∷ 0 ∷ 0 ∷ 0 ∷ []) (0 ∷ 1 ∷ 0 ∷ [])
+    -- pieces J 3, 3, 4 of 10
+    ∷ pieces 7 (2 ∷ 2 ∷ 3 ∷ [])
+    ∷ pieces 1 (0 ∷ 0 ∷ 1 ∷ [])
+    ∷ pieces 10 (3 ∷ 3 ∷ 4 ∷ [])
     ∷ []

@@ -1,23 +1,5 @@
 // Runs document 01's worked figures through the public functions and prints a line for each, which is held to the
 // stored output. The starred ones are also proved, as one list of cases (specs/Figures.antt).
-use corridor::Answer;
-
-// Prints an answer: accepted, or the refusal's number and place.
-fn print_answer(answer: Answer) {
-    match answer {
-        Answer::Accepted => {
-            io::write_all(1, b"accepted\n");
-        }
-        Answer::Refused(refusal) => {
-            io::write_all(1, b"refused ");
-            io::print_decimal(1, corridor::number(refusal) as u64);
-            io::write_all(1, b" at ");
-            io::print_decimal(1, corridor::place(refusal) as u64);
-            io::write_all(1, b"\n");
-        }
-    }
-}
-
 // The acceptance of one cell with an on-ramp, at the given v, w and x.
 fn one_cell(v: u32, w: u32, x: u32) {
     io::write_all(1, b"v ");
@@ -26,28 +8,17 @@ fn one_cell(v: u32, w: u32, x: u32) {
     io::print_decimal(1, (w as u64) + (x as u64));
     io::write_all(1, b": ");
     let table = [v, w, 2_000, 10_000, 7, x, 500, 0, 0];
-    print_answer(corridor::accept_table(&table));
-}
-
-// Prints a word and the numbers of a list.
-fn print_list(word: &[u8], list: &[u32]) {
-    io::write_all(1, word);
-    let mut i = 0;
-    while i < list.len() {
-        io::write_all(1, b" ");
-        io::print_decimal(1, list[i] as u64);
-        i += 1;
-    }
+    show::answer(corridor::accept_table(&table));
 }
 
 // Runs one period and prints its sheet (entry flow, f, s, r, modes) and the state after it (Q, n, q).
 fn one_period(name: &[u8], table: &[u32], state: &mut [u32], demand: &[u32], sheet: &mut [u32]) {
     io::write_all(1, name);
     let answer = period::period(table, state, demand, sheet);
-    print_list(b": sheet", sheet);
-    print_list(b", state", state);
+    show::list(b": sheet", sheet);
+    show::list(b", state", state);
     io::write_all(1, b", ");
-    print_answer(answer);
+    show::answer(answer);
 }
 
 fn main() {

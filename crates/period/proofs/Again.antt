@@ -12,13 +12,14 @@ use Rattle.whole.proofs.Search.{Passes}
 use Rattle.whole.proofs.Sums.{sum-of-sums, sum-of-equal-terms, balance}
 use Rattle.corridor.specs.declared.Answer.the-variants.{Accepted}
 use Rattle.corridor.specs.Layout.{cells, rowAt, entryQueue, countAt, queueAt, entryDemand, onDemandAt}
+use Rattle.corridor.specs.Vehicles.{vehicles}
 use Rattle.corridor.specs.Checks.{answer}
 use Rattle.corridor.specs.Acceptance.{withRamp, queueLimit, demandLimit, tableNumbers, stateInRange, stateNumbers, demandNumbers}
 use Rattle.corridor.proofs.Answers.{accepted-both, both-accepted, passes-accepted}
 use Rattle.corridor.proofs.Accepted.{TableFits, StateFits, RowFits, table-fits, state-fits, row-fits}
 use Rattle.period.specs.Sharing.{Sharing}
 use Rattle.period.specs.Period.{flowAt, offFlowAt, onFlowAt, countAfter, queueAfter, stateAfter}
-use Rattle.period.specs.Account.{vehicles, demanded, leftRoad}
+use Rattle.period.specs.Account.{demanded, leftRoad}
 use Rattle.period.proofs.Fair.{Fair}
 use Rattle.period.proofs.Reading.{after-entry, after-count, after-queue}
 use Rattle.period.proofs.Laws.{cell-balance, entry-balance, queue-balance, count-stays-within}

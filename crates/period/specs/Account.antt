@@ -1,14 +1,10 @@
--- Demand 3: the vehicles on the corridor, what a demand row brings, and what a period lets out.
+-- Demand 3: what a demand row brings, and what a period lets out.
 use Prim.Native.Nat.{ℕ, _+_}
 use mathlib.Core.List.{List}
 use Rattle.whole.specs.Sums.{sum}
-use Rattle.corridor.specs.Layout.{cells, entryQueue, countAt, queueAt, entryDemand, onDemandAt}
+use Rattle.corridor.specs.Layout.{cells, entryDemand, onDemandAt}
 use Rattle.period.specs.Sharing.{Sharing}
 use Rattle.period.specs.Period.{flowAt, offFlowAt}
-
--- vehicles in cells and queues
-abbrev pub vehicles : List ℕ → List ℕ → ℕ
-vehicles table state = entryQueue state + sum (cells table) (countAt state) + sum (cells table) (queueAt (cells table) state)
 
 -- the demand at the entry and the on-ramps
 abbrev pub demanded : List ℕ → List ℕ → ℕ

@@ -14,7 +14,7 @@ use Rattle.corridor.specs.declared.Answer.the-variants.{Accepted, Refused}
 use Rattle.corridor.specs.Layout.{cells, stateLength}
 use Rattle.corridor.specs.Checks.{Check, answer}
 use Rattle.corridor.specs.Acceptance.{tableLengthFits, stateLengthsFit, stateInRange, bothTables, bothTablesChecks, stateAloneChecks}
-use Rattle.corridor.proofs.Answers.{length-fails, length-fits-too, lengths-passed, refused-stays, accepted-goes-on, accepted-passes}
+use Rattle.corridor.proofs.Answers.{length-fails, length-fits-too, lengths-passed, refused-stays, accepted-goes-on, accepted-passes, accepted-both}
 use Rattle.corridor.proofs.Ranges.{both-hold}
 use Rattle.recut.specs.Recut.{newState, recutListsFit, piecesNumbers, recutChecks, Cut, RecutDone}
 
@@ -87,3 +87,13 @@ module _ (old state pieces new list : List ℕ) where
             (accepted-goes-on (stateInRange old state ∷ []) (piecesNumbers old pieces new) (numbers ∙ state-alone) e)
             ∙ sym checks-are in
             record { answered = whole; leaves = rw (← whole) left }
+
+  -- an accepted re-cut's lists are those of a cut
+  pub accepted-is-cut : answer (recutChecks old state pieces new list) ≡ Accepted → Cut old state pieces new
+  accepted-is-cut e =
+      let passed = accepted-passes _ _ e in
+      let lens = both-hold (tableLengthFits old && tableLengthFits new) (recutListsFit old state pieces new list) (passed .0 0 (omega arith)) in
+      let both = accepted-both (bothTables old new) later (passed .1) in
+      let tables = lengths-passed (bothTables old new) (lens .0) ∙ both .0 in
+      let rest = accepted-both (stateInRange old state ∷ []) (piecesNumbers old pieces new) (both .1) in
+      (tables, state-alone (lens .1) (sym tables) ∙ rest .0, counts-length (lens .1), rest .1)

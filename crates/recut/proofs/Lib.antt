@@ -5,3 +5,4 @@ pub mod Facts
 pub mod Cutting
 pub mod Done
 pub mod Settled
+pub mod Kept

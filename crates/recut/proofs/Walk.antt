@@ -104,25 +104,25 @@ module _ (n : ℕ) (pieces new : List ℕ) (some : (i : ℕ) → i < n → 0 < p
     -- what the pieces of a cell carry adds up, piece by piece, to what the cell had: so do the sums
     module _ (g had : ℕ → ℕ) (part : ℕ → ℕ → ℕ)
         (none : (i : ℕ) → part i 0 ≡ 0)
-        (more : (j : ℕ) (piece : Piece) → On j piece → piece .number + 1 < pieceCount pieces (piece .cell) → part (piece .cell) (piece .number) + g j ≡ part (piece .cell) (piece .number + 1))
-        (all : (j : ℕ) (piece : Piece) → On j piece → piece .number + 1 ≡ pieceCount pieces (piece .cell) → part (piece .cell) (piece .number) + g j ≡ had (piece .cell)) where
+        (more : (j : ℕ) → j < total → pieceAt pieces new j .number + 1 < pieceCount pieces (pieceAt pieces new j .cell) → part (pieceAt pieces new j .cell) (pieceAt pieces new j .number) + g j ≡ part (pieceAt pieces new j .cell) (pieceAt pieces new j .number + 1))
+        (all : (j : ℕ) → j < total → pieceAt pieces new j .number + 1 ≡ pieceCount pieces (pieceAt pieces new j .cell) → part (pieceAt pieces new j .cell) (pieceAt pieces new j .number) + g j ≡ had (pieceAt pieces new j .cell)) where
       carried : (j : ℕ) → j < total → sum j g ≡ sum (pieceAt pieces new j .cell) had + part (pieceAt pieces new j .cell) (pieceAt pieces new j .number)
       unfolding pieceAt
       carried zero h = omega (arith, none 0)
       carried (suc j) h =
           by (last-or-not (on-piece j (omega arith))) (carried j (omega arith))
         where
+          below : j < total
+          below = omega arith
+
           piece : Piece
           piece = pieceAt pieces new j
 
-          on : On j piece
-          on = on-piece j (omega arith)
-
           by : (piece .number + 1 < pieceCount pieces (piece .cell)) ⊎ (piece .number + 1 ≡ pieceCount pieces (piece .cell)) → sum j g ≡ sum (piece .cell) had + part (piece .cell) (piece .number) → sum j g + g j ≡ sum (nextPiece pieces piece (rowAt new j .jam) .cell) had + part (nextPiece pieces piece (rowAt new j .jam) .cell) (nextPiece pieces piece (rowAt new j .jam) .number)
-          by (inl h) before = rw (lt-ltb (piece .number + 1) (pieceCount pieces (piece .cell)) h) (omega (arith, more j piece on h))
+          by (inl h) before = rw (lt-ltb (piece .number + 1) (pieceCount pieces (piece .cell)) h) (omega (arith, more j below h))
           by (inr h) before =
               rw (le-ltb (piece .number + 1) (pieceCount pieces (piece .cell)) (omega arith), add-one (piece .cell))
-              (omega (arith, all j piece on h, none (suc (piece .cell))))
+              (omega (arith, all j below h, none (suc (piece .cell))))
 
       pub sums-carry : (last : ℕ) → suc last ≡ total → sum total g ≡ sum n had
       sums-carry last e =
@@ -130,5 +130,30 @@ module _ (n : ℕ) (pieces new : List ℕ) (some : (i : ℕ) → i < n → 0 < p
           let on = on-piece last at in
           let ends = last-piece last e (pieceAt pieces new last) on in
           ap (λ m. sum m g) (sym e)
-          ∙ omega (arith, carried last at, all last (pieceAt pieces new last) on (ends .0))
+          ∙ omega (arith, carried last at, all last at (ends .0))
           ∙ ap (λ m. sum m had) (ends .1)
+
+    -- what holds at the start and is handed on from piece to piece, within a cell and from its last piece to the next cell, holds at each
+    -- new cell of its old cell and its number there
+    pub along : (P : ℕ → ℕ → ℕ → Type 0) → P 0 0 0 → ((j : ℕ) → j < total → P j (pieceAt pieces new j .cell) (pieceAt pieces new j .number) → pieceAt pieces new j .number + 1 < pieceCount pieces (pieceAt pieces new j .cell) → P (suc j) (pieceAt pieces new j .cell) (pieceAt pieces new j .number + 1)) → ((j : ℕ) → j < total → P j (pieceAt pieces new j .cell) (pieceAt pieces new j .number) → pieceAt pieces new j .number + 1 ≡ pieceCount pieces (pieceAt pieces new j .cell) → P (suc j) (suc (pieceAt pieces new j .cell)) 0) → (j : ℕ) → j < total → P j (pieceAt pieces new j .cell) (pieceAt pieces new j .number)
+    unfolding pieceAt
+    along P start within after zero h = start
+    along P start within after (suc j) h =
+        by (last-or-not (on-piece j (omega arith))) (along P start within after j (omega arith))
+      where
+        piece : Piece
+        piece = pieceAt pieces new j
+
+        below : j < total
+        below = omega arith
+
+        by : (piece .number + 1 < pieceCount pieces (piece .cell)) ⊎ (piece .number + 1 ≡ pieceCount pieces (piece .cell)) → P j (piece .cell) (piece .number) → P (suc j) (nextPiece pieces piece (rowAt new j .jam) .cell) (nextPiece pieces piece (rowAt new j .jam) .number)
+        by (inl more) p = rw (lt-ltb (piece .number + 1) (pieceCount pieces (piece .cell)) more) (within j below p more)
+        by (inr all) p = rw (le-ltb (piece .number + 1) (pieceCount pieces (piece .cell)) (omega arith), add-one (piece .cell)) (after j below p all)
+
+    -- and so at the road's end, after the last piece of the last cell
+    pub along-to-the-end : (P : ℕ → ℕ → ℕ → Type 0) → P 0 0 0 → ((j : ℕ) → j < total → P j (pieceAt pieces new j .cell) (pieceAt pieces new j .number) → pieceAt pieces new j .number + 1 < pieceCount pieces (pieceAt pieces new j .cell) → P (suc j) (pieceAt pieces new j .cell) (pieceAt pieces new j .number + 1)) → ((j : ℕ) → j < total → P j (pieceAt pieces new j .cell) (pieceAt pieces new j .number) → pieceAt pieces new j .number + 1 ≡ pieceCount pieces (pieceAt pieces new j .cell) → P (suc j) (suc (pieceAt pieces new j .cell)) 0) → (last : ℕ) → suc last ≡ total → P total n 0
+    along-to-the-end P start within after last e =
+        let at : last < total = omega arith in
+        let ends = last-piece last e (pieceAt pieces new last) (on-piece last at) in
+        rw (e, ends .1) at (after last at (along P start within after last at) (ends .0))

@@ -1,10 +1,10 @@
--- `figures::print_list` meets its contract. Assumes nothing.
+-- `show::list` meets its contract. Assumes nothing.
 use Prim.Native.Nat.{_-_}
 use native.Mathlib.Omega.{arith}
 use borrow.Author.Needs.{needs}
 use lib.ListN.{length}
-use Rattle.figures.proofs.print_list.Statement.{statement}
-use Rattle.figures.proofs.print_list.Tie as tie
+use Rattle.show.proofs.list.Statement.{statement}
+use Rattle.show.proofs.list.Tie as tie
 
 abbrev Inv-loop : tie.InvT-loop
 Inv-loop word list i₀ space i = Unit
@@ -48,8 +48,8 @@ loop-again c = search needs
 returns : tie.Need-returns Inv-loop μ-loop
 returns c = search needs
 
-pub print-list-spec : {M : Type 1} → statement M
-print-list-spec =
+pub list-spec : {M : Type 1} → statement M
+list-spec =
     tie.close
     (tie.spec
     Inv-loop

@@ -1,0 +1,92 @@
+// Cuts a cell with an on-ramp and an off-ramp into three under a running corridor, and shows that nothing is lost: the shares sum to the
+// old count, the queue stands on the first piece and the off-ramp on the last, and the periods go on.
+ghost use Prim.Native.Nat.{_≤_};
+ghost use lib.ListN.{length};
+use corridor::Answer;
+use corridor::layout::cells;
+use corridor::layout::ramp_at;
+
+// Ten periods of one demand row; answers whether all were accepted.
+fn ten_periods(table: &[u32], state: &mut [u32], row: &[u32], sheet: &mut [u32]) -> bool {
+    let mut k: usize = 0;
+    while k < 10 {
+        if let Answer::Refused(_) = period::period(table, state, row, sheet) {
+            return false;
+        }
+        k += 1;
+    }
+    true
+}
+
+// Prints the state, and the vehicles in its cells and queues.
+fn show_state(word: &[u8], state: &[u32]) {
+    show::list(word, state);
+    show::total(b", vehicles ", state);
+}
+
+// Prints the ramp numbers along the road, the on-ramp and the off-ramp of each cell; 0 is no ramp.
+fn show_ramps(table: &[u32]) {
+    io::write_all(1, b"ramps along the road:");
+    let n = 2 * cells(table);
+    let mut k: usize = 0;
+    while k < n {
+        io::write_all(1, b" ");
+        io::print_decimal(1, ramp_at(table, k) as u64);
+        k += 1;
+    }
+    io::write_all(1, b"\n");
+}
+
+fn main() {
+    let old = [16_384u32, 8_192, 2_000, 12_000, 11, 16_384, 500, 12, 16_384];
+    let new = [
+        49_152u32,
+        24_576,
+        2_000,
+        4_000,
+        11,
+        16_384,
+        500,
+        0,
+        0,
+        49_152,
+        24_576,
+        2_000,
+        4_000,
+        0,
+        0,
+        0,
+        0,
+        0,
+        49_152,
+        24_576,
+        2_000,
+        4_000,
+        0,
+        0,
+        0,
+        12,
+        16_384,
+    ];
+    let mut state = [0u32, 6_001, 300];
+    let mut sheet = [0u32; 5];
+    show::list(b"old cell (v w F J on x c off b):", &old);
+    io::write_all(1, b"\n");
+    show_ramps(&old);
+    ten_periods(&old, &mut state, &[800, 600, 0], &mut sheet);
+    show_state(b"after ten periods: Q n q", &state);
+    show::list(b"sheet (entry f s r mode):", &sheet);
+    io::write_all(1, b"\n");
+    let mut cut = [0u32; 7];
+    show::list(b"new cells:", &new);
+    io::write_all(1, b"\n");
+    show_ramps(&new);
+    io::write_all(1, b"cut into three: ");
+    show::answer(recut::recut(&old, &state, &[3], &new, &mut cut));
+    show_state(b"shares: Q n n n q q q", &cut);
+    let mut new_sheet = [0u32; 13];
+    ten_periods(&new, &mut cut, &[800, 600, 0, 0, 0, 0, 0], &mut new_sheet);
+    show_state(b"after ten more: Q n n n q q q", &cut);
+    show::list(b"sheet (entry, f, s, r, modes):", &new_sheet);
+    io::write_all(1, b"\n");
+}

@@ -1,0 +1,4 @@
+pub mod Sound
+pub mod Periods
+pub mod Cuts
+pub mod Demand3
