@@ -21,6 +21,52 @@ fn one_period(name: &[u8], table: &[u32], state: &mut [u32], demand: &[u32], she
     show::answer(answer);
 }
 
+// Cuts a cell of jam count 10 that holds n into pieces of 3, 3 and 4, and prints the new state (Q, n, n, n, q, q, q).
+fn one_cut(n: u32) {
+    let new = [
+        32_768u32,
+        16_384,
+        2_000,
+        3,
+        0,
+        0,
+        0,
+        0,
+        0,
+        32_768,
+        16_384,
+        2_000,
+        3,
+        0,
+        0,
+        0,
+        0,
+        0,
+        32_768,
+        16_384,
+        2_000,
+        4,
+        0,
+        0,
+        0,
+        0,
+        0,
+    ];
+    let mut list = [0u32; 7];
+    io::write_all(1, b"pieces of ");
+    io::print_decimal(1, n as u64);
+    let answer = recut::recut(
+        &[32_768, 16_384, 2_000, 10, 0, 0, 0, 0, 0],
+        &[0, n, 0],
+        &[3],
+        &new,
+        &mut list,
+    );
+    show::list(b": state", &list);
+    io::write_all(1, b", ");
+    show::answer(answer);
+}
+
 fn main() {
     one_cell(65_536, 16_384, 16_384);
     one_cell(65_537, 16_384, 16_384);
@@ -96,4 +142,7 @@ fn main() {
         &[0, 0, 0],
         &mut sheet,
     );
+    one_cut(7);
+    one_cut(1);
+    one_cut(10);
 }
