@@ -6,6 +6,40 @@ use corridor::Answer;
 use corridor::layout::cells;
 use corridor::layout::ramp_at;
 
+// One cell with on-ramp 11 and off-ramp 12, in the columns v, w, F, J, on, x, c, off, b.
+const OLD: [u32; 9] = [16_384, 8_192, 2_000, 12_000, 11, 16_384, 500, 12, 16_384];
+
+// The same stretch in three cells: the on-ramp on the first, the off-ramp on the last.
+const NEW: [u32; 27] = [
+    49_152,
+    24_576,
+    2_000,
+    4_000,
+    11,
+    16_384,
+    500,
+    0,
+    0,
+    49_152,
+    24_576,
+    2_000,
+    4_000,
+    0,
+    0,
+    0,
+    0,
+    0,
+    49_152,
+    24_576,
+    2_000,
+    4_000,
+    0,
+    0,
+    0,
+    12,
+    16_384,
+];
+
 // Ten periods of one demand row; answers whether all were accepted.
 fn ten_periods(table: &[u32], state: &mut [u32], row: &[u32], sheet: &mut [u32]) -> bool {
     let mut k: usize = 0;
@@ -38,54 +72,24 @@ fn show_ramps(table: &[u32]) {
 }
 
 fn main() {
-    let old = [16_384u32, 8_192, 2_000, 12_000, 11, 16_384, 500, 12, 16_384];
-    let new = [
-        49_152u32,
-        24_576,
-        2_000,
-        4_000,
-        11,
-        16_384,
-        500,
-        0,
-        0,
-        49_152,
-        24_576,
-        2_000,
-        4_000,
-        0,
-        0,
-        0,
-        0,
-        0,
-        49_152,
-        24_576,
-        2_000,
-        4_000,
-        0,
-        0,
-        0,
-        12,
-        16_384,
-    ];
     let mut state = [0u32, 6_001, 300];
     let mut sheet = [0u32; 5];
-    show::list(b"old cell (v w F J on x c off b):", &old);
+    show::list(b"old cell (v w F J on x c off b):", &OLD);
     io::write_all(1, b"\n");
-    show_ramps(&old);
-    ten_periods(&old, &mut state, &[800, 600, 0], &mut sheet);
+    show_ramps(&OLD);
+    ten_periods(&OLD, &mut state, &[800, 600, 0], &mut sheet);
     show_state(b"after ten periods: Q n q", &state);
     show::list(b"sheet (entry f s r mode):", &sheet);
     io::write_all(1, b"\n");
     let mut cut = [0u32; 7];
-    show::list(b"new cells:", &new);
+    show::list(b"new cells:", &NEW);
     io::write_all(1, b"\n");
-    show_ramps(&new);
+    show_ramps(&NEW);
     io::write_all(1, b"cut into three: ");
-    show::answer(recut::recut(&old, &state, &[3], &new, &mut cut));
+    show::answer(recut::recut(&OLD, &state, &[3], &NEW, &mut cut));
     show_state(b"shares: Q n n n q q q", &cut);
     let mut new_sheet = [0u32; 13];
-    ten_periods(&new, &mut cut, &[800, 600, 0, 0, 0, 0, 0], &mut new_sheet);
+    ten_periods(&NEW, &mut cut, &[800, 600, 0, 0, 0, 0, 0], &mut new_sheet);
     show_state(b"after ten more: Q n n n q q q", &cut);
     show::list(b"sheet (entry, f, s, r, modes):", &new_sheet);
     io::write_all(1, b"\n");

@@ -1,5 +1,58 @@
 // Runs document 01's worked figures through the public functions and prints a line for each, which is held to the
 // stored output. The starred ones are also proved, as one list of cases (specs/Figures.antt).
+// The two cells of the printed example.
+const ROAD: [u32; 18] = [
+    32_768,
+    16_384,
+    2_000,
+    10_000,
+    0,
+    0,
+    0,
+    0,
+    0,
+    32_768,
+    16_384,
+    2_000,
+    10_000,
+    0,
+    0,
+    0,
+    0,
+    0,
+];
+
+// Three cells without ramps, of jam counts 3, 3 and 4.
+const THIRDS: [u32; 27] = [
+    32_768,
+    16_384,
+    2_000,
+    3,
+    0,
+    0,
+    0,
+    0,
+    0,
+    32_768,
+    16_384,
+    2_000,
+    3,
+    0,
+    0,
+    0,
+    0,
+    0,
+    32_768,
+    16_384,
+    2_000,
+    4,
+    0,
+    0,
+    0,
+    0,
+    0,
+];
+
 // The acceptance of one cell with an on-ramp, at the given v, w and x.
 fn one_cell(v: u32, w: u32, x: u32) {
     io::write_all(1, b"v ");
@@ -23,35 +76,6 @@ fn one_period(name: &[u8], table: &[u32], state: &mut [u32], demand: &[u32], she
 
 // Cuts a cell of jam count 10 that holds n into pieces of 3, 3 and 4, and prints the new state (Q, n, n, n, q, q, q).
 fn one_cut(n: u32) {
-    let new = [
-        32_768u32,
-        16_384,
-        2_000,
-        3,
-        0,
-        0,
-        0,
-        0,
-        0,
-        32_768,
-        16_384,
-        2_000,
-        3,
-        0,
-        0,
-        0,
-        0,
-        0,
-        32_768,
-        16_384,
-        2_000,
-        4,
-        0,
-        0,
-        0,
-        0,
-        0,
-    ];
     let mut list = [0u32; 7];
     io::write_all(1, b"pieces of ");
     io::print_decimal(1, n as u64);
@@ -59,7 +83,7 @@ fn one_cut(n: u32) {
         &[32_768, 16_384, 2_000, 10, 0, 0, 0, 0, 0],
         &[0, n, 0],
         &[3],
-        &new,
+        &THIRDS,
         &mut list,
     );
     show::list(b": state", &list);
@@ -67,36 +91,13 @@ fn one_cut(n: u32) {
     show::answer(answer);
 }
 
-fn main() {
-    one_cell(65_536, 16_384, 16_384);
-    one_cell(65_537, 16_384, 16_384);
-    one_cell(32_768, 49_152, 16_384);
-    one_cell(32_768, 49_152, 16_385);
-    let road = [
-        32_768u32,
-        16_384,
-        2_000,
-        10_000,
-        0,
-        0,
-        0,
-        0,
-        0,
-        32_768,
-        16_384,
-        2_000,
-        10_000,
-        0,
-        0,
-        0,
-        0,
-        0,
-    ];
+// The printed period, and the split.
+fn first_periods() {
     let mut two_cells = [500u32, 8_000, 4_000, 0, 0];
     let mut two_sheet = [0u32; 9];
     one_period(
         b"printed",
-        &road,
+        &ROAD,
         &mut two_cells,
         &[300, 0, 0, 0, 0],
         &mut two_sheet,
@@ -118,6 +119,11 @@ fn main() {
         &[0, 0, 0],
         &mut sheet,
     );
+}
+
+// A given flow, a cell filled to the brim, and a count too small to move.
+fn other_periods() {
+    let mut sheet = [0u32; 5];
     let mut given = [0u32, 1_000, 0];
     one_period(
         b"given o 700",
@@ -142,6 +148,15 @@ fn main() {
         &[0, 0, 0],
         &mut sheet,
     );
+}
+
+fn main() {
+    one_cell(65_536, 16_384, 16_384);
+    one_cell(65_537, 16_384, 16_384);
+    one_cell(32_768, 49_152, 16_384);
+    one_cell(32_768, 49_152, 16_385);
+    first_periods();
+    other_periods();
     one_cut(7);
     one_cut(1);
     one_cut(10);
