@@ -3,16 +3,20 @@ use Prim.Native.Nat.{ℕ}
 use mathlib.Core.Bool.{Bool, true, false, _&&_}
 use mathlib.Core.List.{List, [], _∷_, _++_}
 use lib.Dec.{eqb}
+use Rattle.corridor.specs.Vehicles.{vehicles}
 use Rattle.corridor.specs.Checks.{answer}
 use Rattle.corridor.specs.Acceptance.{rowChecks}
 use Rattle.period.specs.Sharing.{asymmetric}
 use Rattle.period.specs.Period.{sheetOf, stateAfter}
+use Rattle.period.specs.Account.{demanded, leftRoad}
 use Rattle.period.specs.Run.{isAccepted}
 use Rattle.recut.specs.Recut.{newState, recutChecks}
 
 pub data Figure : Type 0 where
   -- a period of a table, a state and a demand row, with the sheet and the state after it
   period : List ℕ → List ℕ → List ℕ → List ℕ → List ℕ → Figure
+  -- the vehicles before a period, the demand, what left the road, and the vehicles after it
+  balance : List ℕ → List ℕ → List ℕ → ℕ → ℕ → ℕ → ℕ → Figure
   -- a cell of jam count 10 that holds n, cut into pieces of 3, 3 and 4, with their vehicles
   pieces : ℕ → List ℕ → Figure
 
@@ -33,6 +37,11 @@ thirds = plain 3 ++ plain 3 ++ plain 4
 unfoldable pub holds : Figure → Bool
 holds (period table state demand sheet after) =
     isAccepted (answer (rowChecks table state demand)) && same (sheetOf asymmetric table state demand) sheet && same (stateAfter asymmetric table state demand) after
+holds (balance table state demand before brought left after) =
+    eqb (vehicles table state) before
+    && eqb (demanded table demand) brought
+    && eqb (leftRoad asymmetric table state demand) left
+    && eqb (vehicles table (stateAfter asymmetric table state demand)) after
 holds (pieces n shares) =
     isAccepted (answer (recutChecks (plain 10) (0 ∷ n ∷ 0 ∷ []) (3 ∷ []) thirds (0 ∷ 0 ∷ 0 ∷ 0 ∷ 0 ∷ 0 ∷ 0 ∷ [])))
     && same (newState (plain 10) (0 ∷ n ∷ 0 ∷ []) (3 ∷ []) thirds) (0 ∷ shares ++ (0 ∷ 0 ∷ 0 ∷ []))
@@ -53,6 +62,8 @@ unfoldable pub starred : List Figure
 starred =
     -- the printed period: entry flow 500, f 1,500 and 2,000, both congested
     period (road ++ road) (500 ∷ 8000 ∷ 4000 ∷ 0 ∷ 0 ∷ []) (300 ∷ 0 ∷ 0 ∷ 0 ∷ 0 ∷ []) (500 ∷ 1500 ∷ 2000 ∷ 0 ∷ 0 ∷ 0 ∷ 0 ∷ 1 ∷ 1 ∷ []) (300 ∷ 7000 ∷ 3500 ∷ 0 ∷ 0 ∷ [])
+    -- 12,500 + 300 − 2,000 = 10,800
+    ∷ balance (road ++ road) (500 ∷ 8000 ∷ 4000 ∷ 0 ∷ 0 ∷ []) (300 ∷ 0 ∷ 0 ∷ 0 ∷ 0 ∷ []) 12500 300 2000 10800
     -- n 1,000, b 16,384, F 1,000,000: f 375, s 125, n 500, free
     ∷ period (offRamp 1000000 16384) (0 ∷ 1000 ∷ 0 ∷ []) (0 ∷ 0 ∷ 0 ∷ []) (0 ∷ 375 ∷ 125 ∷ 0 ∷ 0 ∷ []) (0 ∷ 500 ∷ 0 ∷ [])
     -- with F 100: f 100, s 33, n 867, congested
