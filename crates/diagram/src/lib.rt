@@ -1,11 +1,14 @@
 // Calibration: detector samples of flow and occupancy become a triangular diagram, and the diagram the four numbers v, w,
 // F and J of a cell row. Every sum and quotient is rounded once, in document 01's order.
 ghost use mathlib.Core.Path.{_≡_};
-ghost use Prim.Native.Nat.{_≤_};
+ghost use Prim.Native.Nat.{ℕ, _≤_};
+ghost use mathlib.Core.Bool.{false, _&&_};
 ghost use mathlib.Core.List.{[], _∷_};
+ghost use lib.Ieee.{Float};
 ghost use lib.ListN.{length};
 ghost use Rattle.corridor.specs.Checks.{answer};
-ghost use Rattle.diagram.specs.Samples.{sampleOf};
+ghost use Rattle.diagram.specs.declared.Sample.the-variants.{Unusable};
+ghost use Rattle.diagram.specs.Samples.{flowInRange, occupancyInRange, sampleOf};
 ghost use Rattle.diagram.specs.Calibration.{diagramFits, valuesFit, fittedDiagram, fitAs, rowAs, fitOf, rowOf, calibrationOf};
 
 mod checks;
@@ -86,21 +89,41 @@ pub enum Calibration {
     NotCalibrated(Refusal),
 }
 
-// Reads one sample.
+fn flow_in_range(flow: f64) -> bool
+    ensures { λ r. ⌜ r ≡ flowInRange flow ⌝ }
+{
+    doubles::between(0.0, 20_000.0, flow)
+}
+
+fn occupancy_in_range(occupancy: f64) -> bool
+    ensures { λ r. ⌜ r ≡ occupancyInRange occupancy ⌝ }
+{
+    doubles::between(0.0, 1.0, occupancy)
+}
+
+// Why a sample is unusable whose flow and occupancy are not both in range.
+fn cause_of(flow: f64, occupancy: f64) -> Cause
+    requires { ⌜ (flowInRange flow && occupancyInRange occupancy) ≡ false ⌝ }
+    ensures { λ r. ⌜ ((g : Float) (lanes : ℕ) → sampleOf g lanes flow occupancy ≡ Unusable r) ⌝ }
+{
+    if !doubles::finite(flow) {
+        return Cause::FlowNotFinite;
+    }
+    if !flow_in_range(flow) {
+        return Cause::FlowOutOfRange;
+    }
+    if !doubles::finite(occupancy) {
+        return Cause::OccupancyNotFinite;
+    }
+    Cause::OccupancyOutOfRange
+}
+
+// Reads one sample. A double in range is finite, so that finiteness is asked only for the cause.
 pub fn read_sample(g: f64, lanes: u32, flow: f64, occupancy: f64) -> Sample
     ensures { λ r. ⌜ r ≡ sampleOf g lanes flow occupancy ⌝ }
 {
-    if !doubles::finite(flow) {
-        return Sample::Unusable(Cause::FlowNotFinite);
-    }
-    if !doubles::between(0.0, 20_000.0, flow) {
-        return Sample::Unusable(Cause::FlowOutOfRange);
-    }
-    if !doubles::finite(occupancy) {
-        return Sample::Unusable(Cause::OccupancyNotFinite);
-    }
-    if !doubles::between(0.0, 1.0, occupancy) {
-        return Sample::Unusable(Cause::OccupancyOutOfRange);
+    if !(flow_in_range(flow) & occupancy_in_range(occupancy)) {
+        return Sample::Unusable(cause_of(flow, occupancy));
     }
     let density = (doubles::unsigned(occupancy) / g) * (lanes as f64);
     Sample::Good(doubles::unsigned(flow), density)

@@ -5,7 +5,7 @@ ghost use Prim.Native.Nat.{_≤_};
 ghost use lib.Ieee.{lt};
 ghost use lib.ListN.{length};
 ghost use Rattle.diagram.specs.Samples.{samples};
-ghost use Rattle.diagram.specs.Diagrams.{adds, flowByDensity, densitySquared, speedSums, larger, largestFlow, addsAbove, gapByExcess, excessSquared, waveSums, freeOf};
+ghost use Rattle.diagram.specs.Diagrams.{adds, flowByDensity, densitySquared, speedSums, larger, largestFlow, isAbove, addsAbove, gapByExcess, excessSquared, waveSums, freeOf};
 use crate::Sample;
 use crate::Settings;
 use crate::Sums;
@@ -72,40 +72,50 @@ pub(crate) fn largest_flow(flow: &[f64], occupancy: &[f64], settings: Settings) 
     most
 }
 
-// What "above critical" means, for both sums of wave.
+// What "above critical" means.
 fn is_above(density: f64, critical: f64) -> bool
     ensures { λ r. ⌜ r ≡ lt critical density ⌝ }
 {
     density > critical
 }
 
-fn plus_gap_by_excess(total: f64, capacity: f64, critical: f64, sample: Sample) -> f64
-    ensures { λ r. ⌜ r ≡ addsAbove critical (gapByExcess capacity critical) total sample ⌝ }
+fn sample_above(critical: f64, sample: Sample) -> bool
+    ensures { λ r. ⌜ r ≡ isAbove critical sample ⌝ }
 {
     match sample {
-        Sample::Good(flow, density) => {
-            if is_above(density, critical) {
-                total + (capacity - flow) * (density - critical)
-            } else {
-                total
-            }
-        }
+        Sample::Good(_, density) => is_above(density, critical),
+        Sample::Unusable(_) => false,
+    }
+}
+
+fn plus_gap_by_excess(total: f64, capacity: f64, critical: f64, sample: Sample) -> f64
+    ensures { λ r. ⌜ r ≡ adds (gapByExcess capacity critical) total sample ⌝ }
+{
+    match sample {
+        Sample::Good(flow, density) => total + (capacity - flow) * (density - critical),
         Sample::Unusable(_) => total,
     }
 }
 
 fn plus_excess_squared(total: f64, critical: f64, sample: Sample) -> f64
-    ensures { λ r. ⌜ r ≡ addsAbove critical (excessSquared critical) total sample ⌝ }
+    ensures { λ r. ⌜ r ≡ adds (excessSquared critical) total sample ⌝ }
 {
     match sample {
-        Sample::Good(_, density) => {
-            if is_above(density, critical) {
-                total + (density - critical) * (density - critical)
-            } else {
-                total
-            }
-        }
+        Sample::Good(_, density) => total + (density - critical) * (density - critical),
         Sample::Unusable(_) => total,
+    }
+}
+
+// A step of both sums of wave: one test of "above critical" serves the two.
+fn plus_above(sums: Sums, capacity: f64, critical: f64, sample: Sample) -> Sums
+    ensures { λ r. ⌜ (r .top ≡ addsAbove critical (gapByExcess capacity critical) (sums .top) sample) × (r .bottom ≡ addsAbove critical (excessSquared critical) (sums .bottom) sample) ⌝ }
+{
+    if !sample_above(critical, sample) {
+        return sums;
+    }
+    Sums {
+        top: plus_gap_by_excess(sums.top, capacity, critical, sample),
+        bottom: plus_excess_squared(sums.bottom, critical, sample),
     }
 }
 
@@ -121,17 +131,15 @@ pub(crate) fn wave_sums(
     ensures { λ r. ⌜ r ≡ waveSums capacity critical (samples settings (now (flow .entry)) (now (occupancy .entry))) ⌝ }
 {
     let n = flow.len();
-    let mut gaps = 0.0;
-    let mut excesses = 0.0;
+    let mut sums = Sums {
+        top: 0.0,
+        bottom: 0.0,
+    };
     let mut i = 0;
     while i < n {
         let sample = read_sample(settings.g, settings.lanes, flow[i], occupancy[i]);
-        gaps = plus_gap_by_excess(gaps, capacity, critical, sample);
-        excesses = plus_excess_squared(excesses, critical, sample);
+        sums = plus_above(sums, capacity, critical, sample);
         i += 1;
     }
-    Sums {
-        top: gaps,
-        bottom: excesses,
-    }
+    sums
 }

@@ -9,7 +9,7 @@ use Rattle.corridor.specs.Acceptance.{rowChecks}
 use Rattle.period.specs.Sharing.{asymmetric}
 use Rattle.period.specs.Period.{sheetOf, stateAfter}
 use Rattle.period.specs.Account.{demanded, leftRoad}
-use Rattle.period.specs.Run.{isAccepted}
+use Rattle.run.specs.Run.{isAccepted}
 use Rattle.recut.specs.Recut.{newState, recutChecks}
 
 pub data Figure : Type 0 where

@@ -22,13 +22,13 @@ use Rattle.corridor.proofs.Answers.{accepted-passes, accepted-both, lengths-pas
 use Rattle.corridor.proofs.Ranges.{both-hold}
 use Rattle.period.specs.Sharing.{asymmetric}
 use Rattle.period.specs.Period.{onFlowAt, stateAfter, periodChecks, sheetLength}
-use Rattle.period.specs.Run.{rows, rowOf, isAccepted, stateAfterPeriods, rowAnswer, completed, runChecks, periodsRun}
 use Rattle.period.specs.Account.{demanded, leftRoad}
 use Rattle.period.proofs.Fair.{asymmetric-is-fair}
 use Rattle.period.proofs.Reading.{after-length, after-queue}
 use Rattle.period.proofs.Laws.{queue-balance}
 use Rattle.period.proofs.Again.{t, s, d, state-stays-accepted, vehicles-balance}
 use Rattle.period.proofs.Rows.{same-length-fits}
+use Rattle.run.specs.Run.{rows, rowOf, isAccepted, stateAfterPeriods, rowAnswer, completed, runChecks, periodsRun}
 use Rattle.ledger.specs.Calls.{Corridor, Call, IsAccepted, period, run, leaves, accepts, letsOut, acceptsAt, letsInAt, queueOf}
 use Rattle.ledger.proofs.Sound.{Sound, nothing, then, CallIsSound}
 
@@ -68,11 +68,13 @@ pub period-is-sound : (demand sheet : List ℕ) → CallIsSound (period demand s
 unfolding leaves accepts letsOut acceptsAt letsInAt
 period-is-sound demand sheet c e = by (answer (periodChecks (c .table) (c .state) demand sheet)) refl
   where
-    by : (a : Answer) → answer (periodChecks (c .table) (c .state) demand sheet) ≡ a → Sound c (record { table = c .table; state = whenAccepted a (stateAfter asymmetric (c .table) (c .state) demand) (c .state) }) (whenAccepted a (demanded (c .table) demand) 0) (whenAccepted a (leftRoad asymmetric (c .table) (c .state) demand) 0) (λ ramp. whenAccepted a (atOnRamp (c .table) ramp (onDemandAt demand)) 0) (λ ramp. whenAccepted a (atOnRamp (c .table) ramp (onFlowAt asymmetric (c .table) (c .state) demand)) 0)
-    by (Refused refusal) h = nothing c e
+    by : (a : Answer) → answer (periodChecks (c .table) (c .state) demand sheet) ≡ a → Sound c (leaves (period demand sheet) c) (accepts (period demand sheet) c) (letsOut (period demand sheet) c) (λ ramp. acceptsAt ramp (period demand sheet) c) (λ ramp. letsInAt ramp (period demand sheet) c)
+    by (Refused refusal) h =
+        record { accepted = rw h e; vehicles = rw h (omega arith); queues = λ ramp. rw h (omega arith); ramps = refl }
     by Accepted h =
-        row-is-sound (c .table) (c .state) demand (fits c e) (numbers c e)
-        (accepted-both (stateNumbers (c .table) (c .state)) (demandNumbers (c .table) (c .state) demand) (accepted-passes _ _ h .1) .1)
+        rw h
+        (row-is-sound (c .table) (c .state) demand (fits c e) (numbers c e)
+        (accepted-both (stateNumbers (c .table) (c .state)) (demandNumbers (c .table) (c .state) demand) (accepted-passes _ _ h .1) .1))
 
 accepted-is : (a : Answer) → isAccepted a ≡ true → a ≡ Accepted
 accepted-is Accepted e = refl

@@ -18,11 +18,11 @@ module _ (way : Sharing) (fair : Fair way) (table state demand : List ℕ) (t : 
   -- no position sends more than it offers
   flow-of-offer : (p : ℕ) → flowAt way table state demand p ≤ offerAt way table state demand p
   unfolding flowAt
-  flow-of-offer p = by (ltb p (cells table))
+  flow-of-offer p = by (ltb p (cells table)) _ _
     where
-      by : (inside : Bool) → pick inside (way .mainline (rowAt table p) (countAt state p) (offerAt way table state demand p) (rampOfferAt way table state demand p)) (offerAt way table state demand p) ≤ offerAt way table state demand p
-      by true = fair .mainline-of-offer _ _ _ _
-      by false = omega arith
+      by : (inside : Bool) (n e : ℕ) → pick inside (way .mainline (rowAt table p) n (offerAt way table state demand p) e) (offerAt way table state demand p) ≤ offerAt way table state demand p
+      by true n e = fair .mainline-of-offer _ _ _ _
+      by false n e = omega arith
 
   -- f is at most n
   pub flow-is-in-the-cell : (i : ℕ) → i < cells table → flowAt way table state demand (suc i) ≤ countAt state i
@@ -33,12 +33,17 @@ module _ (way : Sharing) (fair : Fair way) (table state demand : List ℕ) (t : 
   -- f + s is at most n
   pub what-leaves-is-in-the-cell : (i : ℕ) → i < cells table → flowAt way table state demand (suc i) + offFlowAt way table state demand i ≤ countAt state i
   unfolding offFlowAt
-  what-leaves-is-in-the-cell i h = leaves-what-it-has _ _ _ _ (flow-is-in-the-cell i h)
+  what-leaves-is-in-the-cell i h =
+      omega
+      (arith, leaves-what-it-has (rowAt table i) (countAt state i) (offDemandAt (cells table) demand i) (flowAt way table state demand (suc i)) (flow-is-in-the-cell i h))
 
   -- what comes from upstream and by the on-ramp fits the room
   pub what-comes-fits : (i : ℕ) → i < cells table → flowAt way table state demand i + onFlowAt way table state demand i ≤ rowAt table i .jam - countAt state i
   unfolding flowAt onFlowAt
-  what-comes-fits i h = rw (lt-ltb i (cells table) h) (fair .both-fit _ _ _ _ (t .rooms i h))
+  what-comes-fits i h =
+      rw (lt-ltb i (cells table) h)
+      (omega
+      (arith, fair .both-fit (rowAt table i) (countAt state i) (offerAt way table state demand i) (rampOfferAt way table state demand i) (t .rooms i h)))
 
   -- an on-ramp lets no more in than waits there
   pub ramp-of-queue : (i : ℕ) → onFlowAt way table state demand i ≤ queueAt (cells table) state i + onDemandAt demand i

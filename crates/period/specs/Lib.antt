@@ -2,5 +2,4 @@ pub mod Cell
 pub mod Sharing
 pub mod Sheet
 pub mod Period
-pub mod Run
 pub mod Account

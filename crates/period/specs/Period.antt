@@ -87,3 +87,9 @@ pub record PeriodDone (table state demand sheet : List ℕ) (a : Answer) (stateL
   pub answered : a ≡ answer (periodChecks table state demand sheet)
   pub leavesState : stateLeft ≡ whenAccepted (answer (periodChecks table state demand sheet)) (stateAfter asymmetric table state demand) state
   pub leavesSheet : sheetLeft ≡ whenAccepted (answer (periodChecks table state demand sheet)) (sheetOf asymmetric table state demand) sheet
+
+-- what one row of a run answers and leaves, under a table and a state that are accepted already
+pub record RowDone (table state row sheet : List ℕ) (a : Answer) (stateLeft sheetLeft : List ℕ) : Type 0 where
+  pub answered : a ≡ answer (demandNumbers table state row)
+  pub leavesState : stateLeft ≡ whenAccepted a (stateAfter asymmetric table state row) state
+  pub leavesSheet : sheetLeft ≡ whenAccepted a (sheetOf asymmetric table state row) sheet

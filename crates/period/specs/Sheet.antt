@@ -14,6 +14,9 @@ offFlowIn n sheet i = getD sheet (1 + n + i) 0
 abbrev pub onFlowIn : ℕ → List ℕ → ℕ → ℕ
 onFlowIn n sheet i = getD sheet (1 + 2 * n + i) 0
 
+abbrev pub modeIn : ℕ → List ℕ → ℕ → ℕ
+modeIn n sheet i = getD sheet (1 + 3 * n + i) 0
+
 -- the sheet with what the cell of index i does
 unfoldable pub withFlows : ℕ → List ℕ → ℕ → Flows → List ℕ
 withFlows n sheet i flows =

@@ -1,16 +1,15 @@
-// One period of the model and a run of periods: first every flow, from the state at the period's start, into the sheet; then the
-// state, brought up to date from the sheet.
+// One period of the model, by itself or for one row of a run: first every flow, from the state at the period's start, into the
+// sheet; then the state, brought up to date from the sheet.
 ghost use mathlib.Core.Path.{_≡_};
 ghost use lib.ListN.{length};
 ghost use mathlib.Core.Bool.{true};
 ghost use Rattle.corridor.specs.Layout.{cells, demandLength};
 ghost use Rattle.corridor.specs.Checks.{answer};
 ghost use Rattle.corridor.specs.Acceptance.{stateLengthsFit, stateNumbers};
-ghost use Rattle.period.specs.Period.{sheetLength, PeriodDone};
-ghost use Rattle.period.specs.Run.{runListsFit, RowDone, RowsDone, RunDone};
+ghost use Rattle.period.specs.Period.{sheetLength, PeriodDone, RowDone};
 
 mod cell;
-mod sheet;
+pub mod sheet;
 mod steps;
 
 use corridor::Answer;
@@ -23,12 +22,6 @@ pub struct Flows {
     pub s: u32,
     pub r: u32,
     pub mode: u32,
-}
-
-// The periods that a run completed, and its answer.
-pub struct Ran {
-    pub periods: usize,
-    pub answer: Answer,
 }
 
 // One period: numbers 1 to 7. On a refusal every list stays as it came.
@@ -47,17 +40,8 @@ pub fn period(table: &[u32], state: &mut [u32], demand: &[u32], sheet: &mut [u32
     Answer::Accepted
 }
 
-// Number 1 of a run's demand rows and sheet.
-fn run_lists_fit(table: &[u32], demand: &[u32], sheet: &[u32]) -> bool
-    ensures { λ r. ⌜ r ≡ runListsFit (now (table .entry)) (now (demand .entry)) (now (sheet .entry)) ⌝ }
-{
-    let n = cells(table);
-    let width = 2 * n + 1;
-    (demand.len() % width == 0) & (demand.len() / width <= 4_096) & (sheet.len() == 4 * n + 1)
-}
-
-// One row of a run: numbers 6 and 7, and its period where they pass.
-fn run_row(table: &[u32], state: &mut [u32], row: &[u32], sheet: &mut [u32]) -> Answer
+// One row of a run, whose table and state are accepted already: numbers 6 and 7, and its period where they pass.
+pub fn run_row(table: &[u32], state: &mut [u32], row: &[u32], sheet: &mut [u32]) -> Answer
     requires { ⌜ stateLengthsFit (now table) (now state) ≡ true ⌝ }
     requires { ⌜ length (now row) ≡ demandLength (cells (now table)) ⌝ }
     requires { ⌜ length (now sheet) ≡ sheetLength (cells (now table)) ⌝ }
@@ -71,53 +55,4 @@ fn run_row(table: &[u32], state: &mut [u32], row: &[u32], sheet: &mut [u32]) -> 
     steps::flows(table, state, row, sheet);
     steps::bring_up_to_date(table, state, row, sheet);
     Answer::Accepted
-}
-
-// The rows of a run whose table and state are accepted. They are not checked again: the state after an accepted period is accepted.
-fn run_rows(table: &[u32], state: &mut [u32], demand: &[u32], sheet: &mut [u32]) -> Ran
-    requires { ⌜ runListsFit (now table) (now demand) (now sheet) ≡ true ⌝ }
-    requires { ⌜ stateLengthsFit (now table) (now state) ≡ true ⌝ }
-    requires { ⌜ answer (stateNumbers (now table) (now state)) ≡ Answer.Accepted ⌝ }
-    ensures { λ r. ⌜ RowsDone (now (table .entry)) (now (state .entry)) (now (demand .entry)) (now (sheet .entry)) r (now (state .exit)) (now (sheet .exit)) ⌝ }
-{
-    let width = 2 * cells(table) + 1;
-    let rows = demand.len() / width;
-    let mut k = 0;
-    let mut at = 0;
-    while k < rows {
-        let found = run_row(table, state, &demand[at..at + width], sheet);
-        if let Answer::Refused(refusal) = found {
-            return Ran {
-                periods: k,
-                answer: Answer::Refused(refusal),
-            };
-        }
-        at += width;
-        k += 1;
-    }
-    Ran {
-        periods: rows,
-        answer: Answer::Accepted,
-    }
-}
-
-// A run of demand rows end to end: numbers 1 to 5 first, then 6 and 7 at each row. Refused at a later row it leaves the state after the
-// completed periods and the last one's sheet.
-pub fn run(table: &[u32], state: &mut [u32], demand: &[u32], sheet: &mut [u32]) -> Ran
-    ensures { λ r. ⌜ RunDone (now (table .entry)) (now (state .entry)) (now (demand .entry)) (now (sheet .entry)) r (now (state .exit)) (now (sheet .exit)) ⌝ }
-{
-    if !run_lists_fit(table, demand, sheet) {
-        return Ran {
-            periods: 0,
-            answer: Answer::Refused(Refusal::Length),
-        };
-    }
-    let found = corridor::accept_state(table, state);
-    if let Answer::Refused(refusal) = found {
-        return Ran {
-            periods: 0,
-            answer: Answer::Refused(refusal),
-        };
-    }
-    run_rows(table, state, demand, sheet)
 }

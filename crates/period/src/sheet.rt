@@ -2,29 +2,36 @@
 ghost use mathlib.Core.Path.{_≡_};
 ghost use Prim.Native.Nat.{_+_, _*_, _<_};
 ghost use lib.ListN.{length};
-ghost use Rattle.period.specs.Sheet.{flowIn, offFlowIn, onFlowIn, withFlows, withEntryFlow};
+ghost use Rattle.period.specs.Sheet.{flowIn, offFlowIn, onFlowIn, modeIn, withFlows, withEntryFlow};
 use crate::Flows;
 
 // The flow out of a position.
-pub(crate) fn flow_in(sheet: &[u32], position: usize) -> u32
+pub fn flow_in(sheet: &[u32], position: usize) -> u32
     requires { ⌜ position < length (now sheet) ⌝ }
     ensures { λ r. ⌜ r ≡ flowIn (now (sheet .entry)) position ⌝ }
 {
     sheet[position]
 }
 
-pub(crate) fn off_flow_in(n: usize, sheet: &[u32], i: usize) -> u32
+pub fn off_flow_in(n: usize, sheet: &[u32], i: usize) -> u32
     requires { ⌜ 1 + n + i < length (now sheet) ⌝ }
     ensures { λ r. ⌜ r ≡ offFlowIn n (now (sheet .entry)) i ⌝ }
 {
     sheet[1 + n + i]
 }
 
-pub(crate) fn on_flow_in(n: usize, sheet: &[u32], i: usize) -> u32
+pub fn on_flow_in(n: usize, sheet: &[u32], i: usize) -> u32
     requires { ⌜ 1 + 2 * n + i < length (now sheet) ⌝ }
     ensures { λ r. ⌜ r ≡ onFlowIn n (now (sheet .entry)) i ⌝ }
 {
     sheet[1 + 2 * n + i]
+}
+
+pub fn mode_in(n: usize, sheet: &[u32], i: usize) -> u32
+    requires { ⌜ 1 + 3 * n + i < length (now sheet) ⌝ }
+    ensures { λ r. ⌜ r ≡ modeIn n (now (sheet .entry)) i ⌝ }
+{
+    sheet[1 + 3 * n + i]
 }
 
 // Stores what the cell of index i does.

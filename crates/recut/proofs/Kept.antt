@@ -83,7 +83,10 @@ module _ (old state pieces new : List ℕ) (known : CutFits old state pieces new
   pub piece-holds-at-most-its-jam : (j : ℕ) → j < cells new → newCount old state pieces new j ≤ rowAt new j .jam
   unfolding newCount
   piece-holds-at-most-its-jam j h =
-      let asks = vehicles-ask old state pieces new known j h in piece-fits _ _ (pieceAt pieces new j .before) _ (asks .0) (asks .1)
+      let p = pieceAt pieces new j in
+      let asks = vehicles-ask old state pieces new known j h in
+      omega
+      (arith, piece-fits (countAt state (p .cell)) (rowAt old (p .cell) .jam) (p .before) (rowAt new j .jam) (asks .0) (asks .1))
 
   -- What only the first piece of a cell has
 

@@ -6,10 +6,11 @@ use native.Mathlib.Nat.{suc-mul}
 use native.Mathlib.Omega.{arith}
 use borrow.Author.Tests.{ne-eqb}
 use lib.ListN.{length, length-append}
-use Rattle.text.proofs.Digits.{one-digit, more-digits}
+use Rattle.digits.proofs.Digits.{one-digit, more-digits}
+use Rattle.digits.specs.Lines.{LF, CR, COMMA, DIGIT, digitsOf, furtherText, recordText, lineText}
 use Rattle.text.proofs.Fed.{Fed, first-digit, next-digit, comma, return, line, breaks, fed}
 use Rattle.text.proofs.ReadBack.{one-more, together-one-more, no-text, open-text, text-after}
-use Rattle.text.specs.Texts.{LF, CR, COMMA, DIGIT, LARGEST, LONGEST, digitsOf, furtherText, recordText, lineText, textOf, Small, none, and, Fits, AllFit, none-left, and-then, TextOf, left-open, together}
+use Rattle.text.specs.Texts.{LARGEST, LONGEST, textOf, Small, none, and, Fits, AllFit, none-left, and-then, TextOf, left-open, together}
 use Rattle.text.specs.Texts as texts
 use Rattle.text.specs.Scans.{begin, feed, ended}
 use Rattle.text.specs.Scans as scans

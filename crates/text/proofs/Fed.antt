@@ -6,8 +6,9 @@ use native.Mathlib.Omega.{arith}
 use borrow.Author.Tests.{lt-ltb, le-leb, eq-eqb, ne-eqb, ltb-true, leb-true, eqb-true, eqb-false, not-true}
 use lib.Dec.{leb, ltb, eqb}
 use Rattle.whole.specs.Search.{pick}
+use Rattle.digits.specs.Lines.{LF, CR, COMMA, DIGIT}
 use Rattle.text.proofs.Tests.{both}
-use Rattle.text.specs.Texts.{LF, CR, COMMA, DIGIT, LARGEST, LONGEST}
+use Rattle.text.specs.Texts.{LARGEST, LONGEST}
 use Rattle.text.specs.Scans.{isDigit, atStart, longer, inNumber, feed}
 use Rattle.text.specs.declared.Scan.{Scan}
 use Rattle.text.specs.declared.Scan.the-variants.{Start, Number, Return}

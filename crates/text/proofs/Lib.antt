@@ -1,7 +1,4 @@
 pub mod Tests
-pub mod Stores
-pub mod Digits
-pub mod Lines
 pub mod Fed
 pub mod Reading
 pub mod Pieces

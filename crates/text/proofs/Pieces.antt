@@ -133,7 +133,7 @@ found-by-progress fields n s (byte ∷ rest) =
     by Breaks same another = ap (foundAt fields) (sym (stays-stopped fields (n + 1) rest))
 
 -- a complete record ends after where its reading began
-reaches-on : (fields at : ℕ) (s : Scan) (bytes : List ℕ) (after : ℕ) → readOn fields at s bytes ≡ Record after → at < after
+pub reaches-on : (fields at : ℕ) (s : Scan) (bytes : List ℕ) (after : ℕ) → readOn fields at s bytes ≡ Record after → at < after
 unfolding readOn readOf
 reaches-on fields at s [] after e = absurd (let z : _≡_ {A = ℕ} 0 1 = cc in omega arith)
 reaches-on fields at s (byte ∷ rest) after e = by (feed s byte fields) (λ next h. reaches-on fields (at + 1) next rest after h) e

@@ -10,9 +10,10 @@ use borrow.Author.Tests.{ltb-true, ltb-false}
 use lib.Dec.{ltb}
 use lib.ListN.{length, set, length-append}
 use lib.Seq.{sets, sets-eq, drop-length}
-use Rattle.text.proofs.Digits.{one-digit, more-digits}
+use Rattle.digits.proofs.Digits.{one-digit, more-digits}
+use Rattle.digits.specs.Lines.{LF, CR, DIGIT, digitsOf, furtherText, recordText, lineText}
 use Rattle.text.proofs.Fed.{feeds-first, feeds-next, feeds-comma, feeds-return, feeds-line}
-use Rattle.text.specs.Texts.{LF, CR, DIGIT, LARGEST, LONGEST, digitsOf, furtherText, recordText, lineText, textOf, Small, none, and, Fits, AllFit, none-left, and-then, TextOf, ended, left-open, together}
+use Rattle.text.specs.Texts.{LARGEST, LONGEST, textOf, Small, none, and, Fits, AllFit, none-left, and-then, TextOf, ended, left-open, together}
 use Rattle.text.specs.Scans.{begin, feed}
 use Rattle.text.specs.Scans as scans
 use Rattle.text.specs.Reads.{readOf, readOn, rowOf, rowOn, rowAtEnd, textFrom, textOn, numbersFrom, numbersOn, held, numbers}

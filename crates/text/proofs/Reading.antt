@@ -7,8 +7,8 @@ use native.Mathlib.Numerals.{add-one}
 use native.Mathlib.Omega.{arith}
 use lib.ListN.{length, getD, drop, set, length-set, drop-of-length-le}
 use lib.Seq.{sets}
-use Rattle.text.proofs.Stores.{rest-of}
-use Rattle.text.specs.Texts.{CR}
+use Rattle.digits.proofs.Stores.{rest-of}
+use Rattle.digits.specs.Lines.{CR}
 use Rattle.text.specs.Scans.{begin, atStart, feed, untouched, ended}
 use Rattle.text.specs.Reads.{readOf, readOn, rowOf, rowOn, endOf, textFrom, textOn, numbersFrom, numbersOn, held, numbers}
 use Rattle.text.specs.declared.Scan.{Scan}

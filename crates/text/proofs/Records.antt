@@ -9,10 +9,11 @@ use borrow.Author.Tests.{ne-eqb}
 use lib.Dec.{eqb}
 use lib.ListN.{length, length-append}
 use Rattle.whole.specs.Search.{pick}
+use Rattle.digits.specs.Lines.{CR, recordText, lineText}
 use Rattle.text.proofs.Fed.{Fed, next-digit, comma, return, breaks, fed}
 use Rattle.text.proofs.ReadBack.{row-reads-back}
 use Rattle.text.proofs.Accepted.{SoFar, at-start, in-number, at-return, After, one-byte-on, nothing-yet, closes, record-and, startText}
-use Rattle.text.specs.Texts.{CR, recordText, lineText, Fits}
+use Rattle.text.specs.Texts.{Fits}
 use Rattle.text.specs.Scans.{begin, feed, ended}
 use Rattle.text.specs.Scans as scans
 use Rattle.text.specs.Reads.{readOf, readOn, rowOn}

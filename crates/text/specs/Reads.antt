@@ -5,7 +5,7 @@ use lib.Dec.{leb, eqb}
 use lib.ListN.{set}
 use lib.Seq.{sets}
 use Rattle.whole.specs.Search.{pick}
-use Rattle.text.specs.Texts.{CR}
+use Rattle.digits.specs.Lines.{CR}
 use Rattle.text.specs.Scans.{begin, feed, ended}
 use Rattle.text.specs.declared.Scan.{Scan}
 use Rattle.text.specs.declared.Step.{Step}

@@ -3,7 +3,8 @@ use Prim.Native.Nat.{ℕ, _+_, _-_, _*_}
 use mathlib.Core.Bool.{Bool, false, _&&_, not}
 use lib.Dec.{leb, ltb, eqb}
 use Rattle.whole.specs.Search.{pick, within}
-use Rattle.text.specs.Texts.{LF, CR, COMMA, DIGIT, LARGEST, LONGEST}
+use Rattle.digits.specs.Lines.{LF, CR, COMMA, DIGIT}
+use Rattle.text.specs.Texts.{LARGEST, LONGEST}
 use Rattle.text.specs.declared.Scan.{Scan}
 use Rattle.text.specs.declared.Scan.the-variants.{Start, Number, Return}
 use Rattle.text.specs.declared.Step.{Step}

@@ -1,20 +1,13 @@
 // The text: records of whole numbers as document 01 writes them, read a byte at a time, so that a text may come in
-// pieces of any size, and decimal digits out.
+// pieces of any size.
 ghost use mathlib.Core.Path.{_≡_};
 ghost use lib.ListN.{length, drop};
 ghost use Rattle.text.specs.Scans.{begin, feed, ended};
-ghost use Rattle.text.specs.Texts.{digitsOf, lineText};
-ghost use Rattle.text.specs.Writes.{written, afterWriting};
 ghost use Rattle.text.specs.Reads.{readOn, rowOn, rowAtEnd, held, numbers, fit, stored, one};
 
-mod decimal;
 mod field;
 mod whole_text;
 
-use decimal::fits;
-use decimal::line_fits;
-use decimal::put_digits;
-use decimal::put_line;
 use field::at_start;
 use field::in_number;
 use field::put;
@@ -84,14 +77,6 @@ pub enum Text {
     BrokenAt(usize),
     // Its numbers do not fit the list.
     TooLong,
-}
-
-// Where writing into a buffer ended.
-pub enum Written {
-    // The position after the last byte written.
-    To(usize),
-    // The bytes do not fit, and none is written.
-    NoRoom,
 }
 
 // Where a record's reading begins.
@@ -207,29 +192,5 @@ pub fn read_one(text: &[u8], row: &mut [u32]) -> Text
         }
         Text::BrokenAt(record) => Text::BrokenAt(record),
         Text::TooLong => Text::TooLong,
-    }
-}
-
-// Writes the decimal digits of a number into a buffer from a position on, most significant first.
-pub fn write_decimal(number: u64, buffer: &mut [u8], at: usize) -> Written
-    ensures answer { λ r. ⌜ r ≡ written (now (buffer .entry)) at (digitsOf number) ⌝ }
-    ensures stores { λ _. ⌜ now (buffer .exit) ≡ afterWriting (now (buffer .entry)) at (digitsOf number) ⌝ }
-{
-    if fits(number, buffer.len(), at) {
-        Written::To(put_digits(number, buffer, at))
-    } else {
-        Written::NoRoom
-    }
-}
-
-// Writes a record of numbers with its end into a buffer from a position on.
-pub fn write_record(numbers: &[u64], buffer: &mut [u8], at: usize) -> Written
-    ensures answer { λ r. ⌜ r ≡ written (now (buffer .entry)) at (lineText (now (numbers .entry))) ⌝ }
-    ensures stores { λ _. ⌜ now (buffer .exit) ≡ afterWriting (now (buffer .entry)) at (lineText (now (numbers .entry))) ⌝ }
-{
-    if line_fits(numbers, buffer.len(), at) {
-        Written::To(put_line(numbers, buffer, at))
-    } else {
-        Written::NoRoom
     }
 }

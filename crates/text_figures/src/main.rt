@@ -1,10 +1,10 @@
 // Reads good and damaged texts through the public functions and writes what was found, which is held to the stored
 // output. Each list holds 7s before.
+use digits::Written;
 use text::End;
 use text::Read;
 use text::Scan;
 use text::Text;
-use text::Written;
 
 fn wide(number: u32) -> u64 {
     number as u64
@@ -21,7 +21,7 @@ fn print_start(buffer: &[u8], end: usize) {
 fn print_list(list: &[u32; 4]) {
     let record = [wide(list[0]), wide(list[1]), wide(list[2]), wide(list[3])];
     let mut line = [0u8; 64];
-    let written = text::write_record(&record, &mut line, 0);
+    let written = digits::write_record(&record, &mut line, 0);
     match written {
         Written::To(end) => print_start(&line, end),
         Written::NoRoom => {

@@ -12,12 +12,15 @@ use std::path::PathBuf;
 use std::process::ExitCode;
 
 const USAGE: &str = "usage: bench [--rounds R] [--peer PATH] [--program PATH] [--megabytes M] [--library | --programs]
+       bench --repeat JOB SIDE CALLS
   --rounds R       rounds of which the best counts (75)
   --peer PATH      the Rust `simulate` (the one beside this program)
   --program PATH   the proved `simulate`
   --megabytes M    size of the large demand file (100)
   --library        only the library's functions
-  --programs       only the programs";
+  --programs       only the programs
+  --repeat         does a job so often on one side (rust, proved, c), for another program to count; a job is run,CELLS,PERIODS
+                   or periods,CELLS,PERIODS, with `example` or a number for CELLS, or recut, or calibration";
 
 pub struct Options {
     rounds: usize,
@@ -56,15 +59,13 @@ fn options() -> Result<Options, String> {
 }
 
 fn main() -> ExitCode {
-    let done = options().and_then(|options| {
-        if options.library {
-            sides::measure(options.rounds);
+    let arguments: Vec<String> = std::env::args().skip(1).collect();
+    let done = match &arguments[..] {
+        [flag, job, side, calls] if flag == "--repeat" => {
+            calls.parse().map_err(|error| format!("{calls}: {error}")).and_then(|calls| sides::repeat(job, side, calls))
         }
-        if options.programs {
-            programs::measure(&options).map_err(|error| error.to_string())?;
-        }
-        Ok(())
-    });
+        _ => timed(),
+    };
     match done {
         Ok(()) => ExitCode::SUCCESS,
         Err(message) => {
@@ -72,4 +73,16 @@ fn main() -> ExitCode {
             ExitCode::FAILURE
         }
     }
+}
+
+fn timed() -> Result<(), String> {
+    options().and_then(|options| {
+        if options.library {
+            sides::measure(options.rounds);
+        }
+        if options.programs {
+            programs::measure(&options).map_err(|error| error.to_string())?;
+        }
+        Ok(())
+    })
 }

@@ -15,39 +15,96 @@ type Run = fn(&[u32], &mut [u32], &[u32], &mut [u32]) -> RunAnswer;
 /// The times of the model, the proved library and the yardstick.
 type Times = Vec<Option<Duration>>;
 
+/// The work that each of the three does.
+type Works = [Option<Work<'static>>; 3];
+
+/// A piece of work with its set-up: what is timed, and what is counted.
+#[derive(Clone, Copy)]
+pub enum Job {
+    /// A run of so many periods over the example corridor, its morning over and over.
+    ExampleRun(usize),
+    /// A run over a road of so many cells and periods.
+    Run(usize, usize),
+    /// The periods of such a run through the function for one period.
+    ExamplePeriods(usize),
+    Periods(usize, usize),
+    /// A re-cut of 128 cells into 512.
+    Recut,
+    /// A calibration from the most samples.
+    Calibration,
+}
+
+impl Job {
+    /// The job of a name as `run,512,4096`, `run,example,4096`, `periods,512,4096`, `recut` or `calibration`.
+    pub fn named(name: &str) -> Option<Job> {
+        let number = |text: &str| text.parse().ok().filter(|number| *number > 0);
+        Some(match name.split(',').collect::<Vec<_>>()[..] {
+            ["run", "example", periods] => Job::ExampleRun(number(periods)?),
+            ["run", cells, periods] => Job::Run(number(cells)?, number(periods)?),
+            ["periods", "example", periods] => Job::ExamplePeriods(number(periods)?),
+            ["periods", cells, periods] => Job::Periods(number(cells)?, number(periods)?),
+            ["recut"] => Job::Recut,
+            ["calibration"] => Job::Calibration,
+            _ => return None,
+        })
+    }
+
+    /// What each side does, once they are seen to leave the same behind. Each job has random numbers of its own.
+    fn works(self) -> Works {
+        let rng = &mut Rng::of_case(210, 41);
+        match self {
+            Job::ExampleRun(periods) => run_works(&example(periods)),
+            Job::Run(cells, periods) => run_works(&corridor(rng, cells, periods)),
+            Job::ExamplePeriods(periods) => period_works(&example(periods)),
+            Job::Periods(cells, periods) => period_works(&corridor(rng, cells, periods)),
+            Job::Recut => recut_works(&even_recut(rng, 128, 4)),
+            Job::Calibration => calibration_works(&calibration(rng)),
+        }
+    }
+}
+
+/// Does a job so many times on one side: `rust`, `proved` or `c`. Nothing is timed: what is run between the first call and
+/// the last is for another program to count.
+pub fn repeat(job: &str, side: &str, calls: usize) -> Result<(), String> {
+    let sides = ["rust", "proved", "c"];
+    let at = sides.iter().position(|name| *name == side).ok_or(format!("{side} is not one of {}", sides.join(", ")))?;
+    let job = Job::named(job).ok_or(format!("{job} is no job"))?;
+    let mut work = job.works()[at].take().ok_or(format!("{side} does not do this, or is not linked"))?;
+    (0..calls).for_each(|_| work());
+    Ok(())
+}
+
 pub fn measure(rounds: usize) {
-    let library = proved::library();
-    if library.is_none() {
+    if proved::library().is_none() {
         println!("No archive is linked (FIGWIMPLE_ARCHIVE): the Rust and C sides alone.");
     }
-    let rng = &mut Rng::of_case(210, 41);
-    let example = example();
-    let wide = corridor(rng, 512, 512);
+    let times = |job: Job| -> Times { best(&mut job.works(), rounds) };
 
     let mut rows = Vec::new();
-    let mut add = |name: &str, times: Times| {
+    let mut add = |name: &str, job: Job| {
+        let times = times(job);
         rows.push(vec![
             name.to_string(),
             time(times[0]),
             time(times[1]),
             time(times[2]),
             ratio(times[1], times[0]),
-            ratio(times[2], times[0]),
+            ratio(times[1], times[2]),
         ]);
     };
-    add("run, 41 cells, 2,520 periods", run_times(&example, library, rounds));
-    add("run, 512 cells, 512 periods", run_times(&wide, library, rounds));
-    add("2,520 calls of period, 41 cells", period_times(&example, library, rounds));
-    add("512 calls of period, 512 cells", period_times(&wide, library, rounds));
-    add("re-cut, 128 cells into 512", recut_times(&even_recut(rng, 128, 4), library, rounds));
-    add("calibration, 65,536 samples", calibration_times(&calibration(rng), library, rounds));
-    let heads = ["one call", "Rust", "proved", "C", "proved / Rust", "C / Rust"];
+    add("run, 41 cells, 4,096 periods", Job::ExampleRun(4_096));
+    add("run, 512 cells, 4,096 periods", Job::Run(512, 4_096));
+    add("4,096 calls of period, 41 cells", Job::ExamplePeriods(4_096));
+    add("4,096 calls of period, 512 cells", Job::Periods(512, 4_096));
+    add("re-cut, 128 cells into 512", Job::Recut);
+    add("calibration, 65,536 samples", Job::Calibration);
+    let heads = ["one call", "Rust", "proved", "C", "proved / Rust", "proved / C"];
     print_table("Best of the rounds, the sides in turn", &heads, &rows);
 
     let heads = ["run", "Rust", "proved", "C", "Rust per cell and period", "proved", "C"];
     let mut rows = Vec::new();
     let mut add = |cells: usize, periods: usize| {
-        let times = run_times(&corridor(&mut Rng::of_case(7, 7), cells, periods), library, rounds);
+        let times = times(Job::Run(cells, periods));
         let each = |at: usize| {
             times[at].map_or("-".into(), |time| format!("{:.2} ns", time.as_nanos() as f64 / (cells * periods) as f64))
         };
@@ -59,14 +116,15 @@ pub fn measure(rounds: usize) {
     print_table("Growth with cells and periods", &heads, &rows);
 }
 
-/// A run over the example corridor.
-fn example() -> Corridor {
+/// A run over the example corridor, its morning over and over.
+fn example(periods: usize) -> Corridor {
     let [cells, state, demand] = EXAMPLE;
     let table = read_whole(cells, COLUMNS).expect("the example's cells are read");
     let width = state_length(table.len() / COLUMNS);
     let sheet = vec![0; sheet_length(table.len() / COLUMNS)];
     let state = read_whole(state, width).expect("the example's state is read");
-    let demand = read_whole(demand, width).expect("the example's demand is read");
+    let morning = read_whole(demand, width).expect("the example's demand is read");
+    let demand = morning.into_iter().cycle().take(periods * width).collect();
     Corridor { table, state, demand, sheet, periods: vec![0] }
 }
 
@@ -88,16 +146,21 @@ fn calibration(rng: &mut Rng) -> Calibrate {
 }
 
 /// The same case is accepted by the model and by the proved library with the same contents left behind.
-fn same(case: Case, library: Option<&dyn Face>) {
+fn same(case: Case) {
     let outcome = case.model_outcome();
     assert_eq!(outcome.number(), 0, "the case to be timed is accepted");
-    if let Some(library) = library {
+    if let Some(library) = proved::library() {
         assert!(outcome == case.outcome(library), "the proved library does what the model does");
     }
 }
 
-fn run_times(case: &Corridor, library: Option<&dyn Face>, rounds: usize) -> Times {
-    same(Case::Run(case.clone()), library);
+/// The work through the model's face and through the proved library's.
+fn through(work: impl Fn(&'static dyn Face) -> Work<'static>) -> [Option<Work<'static>>; 2] {
+    [Some(work(&Model)), proved::library().map(work)]
+}
+
+fn run_works(case: &Corridor) -> Works {
+    same(Case::Run(case.clone()));
     let ends = |run: Run| {
         let (mut state, mut sheet) = (case.state.clone(), case.sheet.clone());
         let answer = run(&case.table, &mut state, &case.demand, &mut sheet);
@@ -106,25 +169,25 @@ fn run_times(case: &Corridor, library: Option<&dyn Face>, rounds: usize) -> Time
     let (with_model, with_c) = (ends(model::run), ends(yardstick::run));
     assert!(with_model == with_c, "the yardstick does what the model does");
 
-    let through = |face: &'static dyn Face| -> Work {
+    let [rust, proved] = through(|face| {
         let Corridor { table, state, demand, sheet, periods } = case.clone();
         let (mut moving, mut sheet, mut periods) = (state.clone(), sheet, periods);
         Box::new(move || {
             moving.copy_from_slice(&state);
             black_box(face.run(black_box(&table), &mut moving, black_box(&demand), &mut sheet, &mut periods));
         })
-    };
-    let mut moving = case.state.clone();
-    let mut sheet = case.sheet.clone();
-    let in_c: Work = Box::new(move || {
-        moving.copy_from_slice(&case.state);
-        let _ = black_box(yardstick::run(black_box(&case.table), &mut moving, black_box(&case.demand), &mut sheet));
     });
-    best(&mut [Some(through(&Model)), proved(library).map(through), Some(in_c)], rounds)
+    let Corridor { table, state, demand, mut sheet, .. } = case.clone();
+    let mut moving = state.clone();
+    let in_c: Work = Box::new(move || {
+        moving.copy_from_slice(&state);
+        let _ = black_box(yardstick::run(black_box(&table), &mut moving, black_box(&demand), &mut sheet));
+    });
+    [rust, proved, Some(in_c)]
 }
 
-fn period_times(case: &Corridor, library: Option<&dyn Face>, rounds: usize) -> Times {
-    let through = |face: &'static dyn Face| -> Work {
+fn period_works(case: &Corridor) -> Works {
+    let [rust, proved] = through(|face| {
         let Corridor { table, state, demand, mut sheet, .. } = case.clone();
         let mut moving = state.clone();
         Box::new(move || {
@@ -133,13 +196,13 @@ fn period_times(case: &Corridor, library: Option<&dyn Face>, rounds: usize) -> T
                 black_box(face.period(black_box(&table), &mut moving, black_box(row), &mut sheet));
             }
         })
-    };
-    best(&mut [Some(through(&Model)), proved(library).map(through), None], rounds)
+    });
+    [rust, proved, None]
 }
 
-fn recut_times(case: &Recut, library: Option<&dyn Face>, rounds: usize) -> Times {
-    same(Case::Recut(case.clone()), library);
-    let through = |face: &'static dyn Face| -> Work {
+fn recut_works(case: &Recut) -> Works {
+    same(Case::Recut(case.clone()));
+    let [rust, proved] = through(|face| {
         let Recut { old_table, old_state, pieces, new_table, mut new_state } = case.clone();
         Box::new(move || {
             black_box(face.recut(
@@ -150,22 +213,17 @@ fn recut_times(case: &Recut, library: Option<&dyn Face>, rounds: usize) -> Times
                 &mut new_state,
             ));
         })
-    };
-    best(&mut [Some(through(&Model)), proved(library).map(through), None], rounds)
+    });
+    [rust, proved, None]
 }
 
-fn calibration_times(case: &Calibrate, library: Option<&dyn Face>, rounds: usize) -> Times {
-    same(Case::Calibrate(case.clone()), library);
-    let through = |face: &'static dyn Face| -> Work {
+fn calibration_works(case: &Calibrate) -> Works {
+    same(Case::Calibrate(case.clone()));
+    let [rust, proved] = through(|face| {
         let Calibrate { flow, occupancy, settings, mut diagram, mut row } = case.clone();
         Box::new(move || {
             black_box(face.calibrate(black_box(&flow), black_box(&occupancy), &settings, &mut diagram, &mut row));
         })
-    };
-    best(&mut [Some(through(&Model)), proved(library).map(through), None], rounds)
-}
-
-/// The linked library again, if there is one.
-fn proved(library: Option<&dyn Face>) -> Option<&'static dyn Face> {
-    library.and(proved::library())
+    });
+    [rust, proved, None]
 }

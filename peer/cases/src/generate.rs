@@ -1,6 +1,6 @@
 //! The making of cases.
 
-use std::collections::HashSet;
+use std::collections::BTreeSet;
 
 use model::{
     sheet_length, state_length, Settings, COLUMNS, MOST_CELLS, MOST_FLOW, MOST_JAM, MOST_QUEUE, MOST_RAMP, ONE,
@@ -54,9 +54,9 @@ fn any_kind(rng: &mut Rng) -> Kind {
     rng.pick(&[Kind::Road, Kind::Road, Kind::Edge, Kind::Edge, Kind::Small])
 }
 
-/// Ramp numbers, no number twice.
+/// Ramp numbers, no number twice. The set is ordered, so that a case is made by the same instructions in every run.
 #[derive(Default)]
-struct Ramps(HashSet<u32>);
+struct Ramps(BTreeSet<u32>);
 
 impl Ramps {
     fn take(&mut self, rng: &mut Rng) -> u32 {

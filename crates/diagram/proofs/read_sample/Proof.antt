@@ -1,41 +1,25 @@
--- `diagram::read_sample` meets its contract. Assumes nothing.
-use mathlib.Core.Path.{ap₂}
+-- `diagram::read_sample` meets its contract: a flow and an occupancy in range are finite. Assumes nothing.
+use mathlib.Core.Path.{sym, ap₂}
+use mathlib.Core.Bool.{_&&_}
 use borrow.Author.Needs.{needs}
-use lib.Ieee.{ofBits, ofInt}
+use Rattle.corridor.proofs.Ranges.{both-hold}
 use Rattle.diagram.specs.declared.Sample.the-variants.{Good}
 use Rattle.diagram.specs.Samples.{sampleOf, density}
-use Rattle.diagram.proofs.Tests.{fails, holds}
-use Rattle.diagram.specs.Samples.{sampleOf}
+use Rattle.diagram.proofs.Tests.{fails, holds, flow-is-finite, occupancy-is-finite}
 use Rattle.diagram.proofs.read_sample.Statement.{statement}
 use Rattle.diagram.proofs.read_sample.Tie as tie
 
-finite-requires : tie.Need-finite-requires
-finite-requires c κs = search needs
+flow-in-range-requires : tie.Need-flow-in-range-requires
+flow-in-range-requires c κs = search needs
+
+occupancy-in-range-requires : tie.Need-occupancy-in-range-requires
+occupancy-in-range-requires c κs = search needs
+
+cause-of-requires : tie.Need-cause-of-requires
+cause-of-requires c κs = fails (ap₂ (λ flow occupancy. flow && occupancy) (c .before .before .flow-in-range .ensures) (c .before .occupancy-in-range .ensures)) (c .if1 .taken)
 
 returns : tie.Need-returns
-unfolding sampleOf ofBits ofInt
-returns c = rw (fails (c .before .finite .ensures) (c .if1 .taken))
-
-between-requires : tie.Need-between-requires
-between-requires c κs = search needs
-
-returns-2 : tie.Need-returns-2
-unfolding sampleOf ofBits ofInt
-returns-2 c = rw (holds (c .before .before .before .finite .ensures) (c .before .before .if1 .left), fails (c .before .between .ensures) (c .if2 .taken))
-
-finite-requires-2 : tie.Need-finite-requires-2
-finite-requires-2 c κs = search needs
-
-returns-3 : tie.Need-returns-3
-unfolding sampleOf ofBits ofInt
-returns-3 c = rw (holds (c .before .before .before .before .before .finite .ensures) (c .before .before .before .before .if1 .left), holds (c .before .before .before .between .ensures) (c .before .before .if2 .left), fails (c .before .finite2 .ensures) (c .if3 .taken))
-
-between-requires-2 : tie.Need-between-requires-2
-between-requires-2 c κs = search needs
-
-returns-4 : tie.Need-returns-4
-unfolding sampleOf ofBits ofInt
-returns-4 c = rw (holds (c .before .before .before .before .before .before .before .finite .ensures) (c .before .before .before .before .before .before .if1 .left), holds (c .before .before .before .before .before .between .ensures) (c .before .before .before .before .if2 .left), holds (c .before .before .before .finite2 .ensures) (c .before .before .if3 .left), fails (c .before .between2 .ensures) (c .if4 .taken))
+returns c = sym (c .cause-of .ensures _ _)
 
 unsigned-requires : tie.Need-unsigned-requires
 unsigned-requires c κs = search needs
@@ -46,25 +30,22 @@ int-to-float-density c = search needs
 unsigned-requires-2 : tie.Need-unsigned-requires-2
 unsigned-requires-2 c κs = search needs
 
-returns-5 : tie.Need-returns-5
-unfolding sampleOf ofBits ofInt
-returns-5 c = rw (holds (c .before .before .before .before .before .before .before .before .before .before .finite .ensures) (c .before .before .before .before .before .before .before .before .before .if1 .left), holds (c .before .before .before .before .before .before .before .before .between .ensures) (c .before .before .before .before .before .before .before .if2 .left), holds (c .before .before .before .before .before .before .finite2 .ensures) (c .before .before .before .before .before .if3 .left), holds (c .before .before .before .before .between2 .ensures) (c .before .before .before .if4 .left))
-    (let given = c .before .before .before .before .before .before .before .before .before .before .before .args in
-    ap₂ (λ flow occupancy. Good flow (density (given .g) (given .lanes) occupancy)) (c .unsigned2 .ensures) (c .before .before .unsigned .ensures))
+returns-2 : tie.Need-returns-2
+unfolding sampleOf
+returns-2 c = let given = c .before .before .before .before .before .before .args in
+    let in-range = both-hold _ _ (holds (ap₂ (λ flow occupancy. flow && occupancy) (c .before .before .before .before .before .flow-in-range .ensures) (c .before .before .before .before .occupancy-in-range .ensures)) (c .before .before .before .if1 .left)) in
+    rw (flow-is-finite (given .flow) (in-range .0), in-range .0, occupancy-is-finite (given .occupancy) (in-range .1), in-range .1)
+    (ap₂ (λ flow occupancy. Good flow (density (given .g) (given .lanes) occupancy)) (c .unsigned2 .ensures) (c .before .before .unsigned .ensures))
 
 pub read-sample-spec : {M : Type 1} → statement M
 read-sample-spec =
     tie.close
     (tie.spec
-    finite-requires
+    flow-in-range-requires
+    occupancy-in-range-requires
+    cause-of-requires
     returns
-    between-requires
-    returns-2
-    finite-requires-2
-    returns-3
-    between-requires-2
-    returns-4
     unsigned-requires
     int-to-float-density
     unsigned-requires-2
-    returns-5)
+    returns-2)

@@ -12,7 +12,7 @@ use Rattle.corridor.proofs.checks.ramps_once_by.Tie as tie
 
 abbrev Inv-loop : tie.InvT-loop
 Inv-loop table marks₀ n k₀ marks k =
-    Searching (rampsOnce table .places) (rampsOnce table .test) n k × Marked table k marks × (length marks ≡ 65536)
+    Searching (rampsOnce table .places) (rampsOnce table .test) n k × Marked table k marks × (length marks ≡ length marks₀)
 
 abbrev μ-loop : tie.MeasureT-loop
 μ-loop table marks₀ n k₀ marks k = n - k
@@ -24,7 +24,7 @@ mul-n : tie.Need-mul-n Inv-loop μ-loop
 mul-n c = search needs
 
 loop-holds : tie.Need-loop-holds Inv-loop μ-loop
-loop-holds c = (begins _ (omega arith), marks-down _ _ (c .before .before .before .pre .1 .0), search needs)
+loop-holds c = (begins _ (omega arith), marks-down _ _ (c .before .before .before .pre .0), search needs)
 
 ramp-at-requires : tie.Need-ramp-at-requires Inv-loop μ-loop
 ramp-at-requires c κs = search needs
@@ -33,7 +33,7 @@ cast-ramp : tie.Need-cast-ramp Inv-loop μ-loop
 cast-ramp c = search needs
 
 in-range : (c : tie.After-ramp-at Inv-loop μ-loop) → c .ramp-at .result < length (c .before .before .loop .marks)
-in-range c = omega (arith, c .before .before .before .before .before .before .pre .1 .1 (c .before .before .loop .k) (search needs))
+in-range c = omega (arith, c .before .before .before .before .before .before .pre .1 (c .before .before .loop .k) (search needs))
 
 slice-read-if1 : tie.Need-slice-read-if1 Inv-loop μ-loop
 slice-read-if1 c = in-range (c .before)

@@ -10,11 +10,11 @@ use Rattle.diagram.proofs.totals.wave_sums.Statement.{statement}
 use Rattle.diagram.proofs.totals.wave_sums.Tie as tie
 
 abbrev Inv-loop : tie.InvT-loop
-Inv-loop flow occupancy settings capacity critical n gaps₀ excesses₀ i₀ gaps excesses i = Passing (summingAbove critical (gapByExcess capacity critical)) (samples settings flow occupancy) 0 n i gaps
-    × Passing (summingAbove critical (excessSquared critical)) (samples settings flow occupancy) 0 n i excesses
+Inv-loop flow occupancy settings capacity critical n sums₀ i₀ sums i = Passing (summingAbove critical (gapByExcess capacity critical)) (samples settings flow occupancy) 0 n i (sums .top)
+    × Passing (summingAbove critical (excessSquared critical)) (samples settings flow occupancy) 0 n i (sums .bottom)
 
 abbrev μ-loop : tie.MeasureT-loop
-μ-loop flow occupancy settings capacity critical n gaps₀ excesses₀ i₀ gaps excesses i = n - i
+μ-loop flow occupancy settings capacity critical n sums₀ i₀ sums i = n - i
 
 loop-holds : tie.Need-loop-holds Inv-loop μ-loop
 unfolding ofBits ofInt
@@ -35,11 +35,8 @@ shared-slice-read-read-sample-2 c = search needs
 read-sample-requires : tie.Need-read-sample-requires Inv-loop μ-loop
 read-sample-requires c κs = search needs
 
-plus-gap-by-excess-requires : tie.Need-plus-gap-by-excess-requires Inv-loop μ-loop
-plus-gap-by-excess-requires c κs = search needs
-
-plus-excess-squared-requires : tie.Need-plus-excess-squared-requires Inv-loop μ-loop
-plus-excess-squared-requires c κs = search needs
+plus-above-requires : tie.Need-plus-above-requires Inv-loop μ-loop
+plus-above-requires c κs = search needs
 
 add-i : tie.Need-add-i Inv-loop μ-loop
 add-i c = search needs
@@ -48,10 +45,11 @@ loop-less : tie.Need-loop-less Inv-loop μ-loop
 loop-less c = search needs
 
 loop-again : tie.Need-loop-again Inv-loop μ-loop
-loop-again c = let lists = c .before .before .before .before .before .before .before .before .before .args in
-    let read = (c .before .before .read-sample .ensures) in (
-      goes-on (lists .settings) (lists .flow .now) (lists .occupancy .now) (c .before .before .before .before .before .before .loop .inv .0) (search needs) (search needs) read (c .before .plus-gap-by-excess .ensures),
-      goes-on (lists .settings) (lists .flow .now) (lists .occupancy .now) (c .before .before .before .before .before .before .loop .inv .1) (search needs) (search needs) read (c .plus-excess-squared .ensures),
+loop-again c = let lists = c .before .before .before .before .before .before .before .before .args in
+    let inv = c .before .before .before .before .before .loop .inv in
+    let read = (c .before .read-sample .ensures) in (
+      goes-on (lists .settings) (lists .flow .now) (lists .occupancy .now) (inv .0) (search needs) (search needs) read (c .plus-above .ensures .0),
+      goes-on (lists .settings) (lists .flow .now) (lists .occupancy .now) (inv .1) (search needs) (search needs) read (c .plus-above .ensures .1),
     )
 
 returns : tie.Need-returns Inv-loop μ-loop
@@ -70,8 +68,7 @@ wave-sums-spec =
     mul-read-sample-2
     shared-slice-read-read-sample-2
     read-sample-requires
-    plus-gap-by-excess-requires
-    plus-excess-squared-requires
+    plus-above-requires
     add-i
     loop-less
     loop-again

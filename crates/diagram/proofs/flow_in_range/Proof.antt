@@ -1,0 +1,15 @@
+-- `diagram::flow_in_range` meets its contract: the code's limits are those of the definition. Assumes nothing.
+use borrow.Author.Needs.{needs}
+use lib.Ieee.{ofBits, ofInt}
+use Rattle.diagram.proofs.flow_in_range.Statement.{statement}
+use Rattle.diagram.proofs.flow_in_range.Tie as tie
+
+between-requires : tie.Need-between-requires
+between-requires c κs = search needs
+
+returns : tie.Need-returns
+unfolding ofBits ofInt
+returns c = c .between .ensures
+
+pub flow-in-range-spec : {M : Type 1} → statement M
+flow-in-range-spec = tie.close (tie.spec between-requires returns)

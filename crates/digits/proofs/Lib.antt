@@ -1,0 +1,5 @@
+pub mod Tests
+pub mod Stores
+pub mod Digits
+pub mod Lines
+pub mod Settled

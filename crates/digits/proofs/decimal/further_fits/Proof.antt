@@ -1,0 +1,65 @@
+-- `digits::decimal::further_fits` meets its contract. Assumes nothing.
+use Prim.Native.Nat.{_-_}
+use native.Mathlib.Omega.{arith}
+use borrow.Author.Needs.{needs}
+use lib.ListN.{length}
+use Rattle.digits.proofs.Lines.{Counting, counts, count-on, count-over, count-done}
+use Rattle.digits.proofs.decimal.further_fits.Statement.{statement}
+use Rattle.digits.proofs.decimal.further_fits.Tie as tie
+
+abbrev Inv-loop : tie.InvT-loop
+Inv-loop numbers room left₀ i₀ left i = Counting numbers room left i
+
+abbrev μ-loop : tie.MeasureT-loop
+μ-loop numbers room left₀ i₀ left i = length numbers - i
+
+loop-holds : tie.Need-loop-holds Inv-loop μ-loop
+loop-holds c = counts _ _
+
+mul-digit-count : tie.Need-mul-digit-count Inv-loop μ-loop
+mul-digit-count c = search needs
+
+shared-slice-read-digit-count : tie.Need-shared-slice-read-digit-count Inv-loop μ-loop
+shared-slice-read-digit-count c = search needs
+
+digit-count-requires : tie.Need-digit-count-requires Inv-loop μ-loop
+digit-count-requires c κs = search needs
+
+returns : tie.Need-returns Inv-loop μ-loop
+returns c = count-over (c .before .before .before .before .loop .inv) (search needs) _ (c .before .digit-count .ensures) (c .if1 .taken)
+
+sub-left : tie.Need-sub-left Inv-loop μ-loop
+sub-left c = search needs
+
+sub-left-2 : tie.Need-sub-left-2 Inv-loop μ-loop
+sub-left-2 c = omega arith
+
+add-i : tie.Need-add-i Inv-loop μ-loop
+add-i c = search needs
+
+loop-less : tie.Need-loop-less Inv-loop μ-loop
+loop-less c = omega arith
+
+loop-again : tie.Need-loop-again Inv-loop μ-loop
+loop-again c = count-on (c .before .before .before .before .loop .inv) (search needs) _ (c .before .digit-count .ensures) (c .if1 .left)
+
+returns-2 : tie.Need-returns-2 Inv-loop μ-loop
+returns-2 c = count-done (c .before .loop .inv) (search needs)
+
+pub further-fits-spec : {M : Type 1} → statement M
+further-fits-spec =
+    tie.close
+    (tie.spec
+    Inv-loop
+    μ-loop
+    loop-holds
+    mul-digit-count
+    shared-slice-read-digit-count
+    digit-count-requires
+    returns
+    sub-left
+    sub-left-2
+    add-i
+    loop-less
+    loop-again
+    returns-2)

@@ -1,0 +1,62 @@
+-- `digits::decimal::put_line` meets its contract. Assumes nothing.
+use Prim.Native.Nat.{_-_}
+use mathlib.Core.Path.{_∙_}
+use native.Mathlib.Omega.{arith}
+use borrow.Author.Needs.{needs}
+use lib.ListN.{length}
+use Rattle.digits.proofs.Lines.{Putting, line-begins, next-fits, next-put, end-fits, end-put}
+use Rattle.digits.proofs.decimal.put_line.Statement.{statement}
+use Rattle.digits.proofs.decimal.put_line.Tie as tie
+
+abbrev Inv-loop : tie.InvT-loop
+Inv-loop numbers buffer₀ at next₀ i₀ buffer next i = Putting numbers buffer₀ at buffer next i
+
+abbrev μ-loop : tie.MeasureT-loop
+μ-loop numbers buffer₀ at next₀ i₀ buffer next i = length numbers - i
+
+loop-holds : tie.Need-loop-holds Inv-loop μ-loop
+loop-holds c = line-begins (c .before .before .args .numbers .now) (c .before .before .args .buffer .now) (c .before .before .args .at) (c .before .before .pre)
+
+mul-put-separated : tie.Need-mul-put-separated Inv-loop μ-loop
+mul-put-separated c = search needs
+
+shared-slice-read-put-separated : tie.Need-shared-slice-read-put-separated Inv-loop μ-loop
+shared-slice-read-put-separated c = search needs
+
+put-separated-requires : tie.Need-put-separated-requires Inv-loop μ-loop
+put-separated-requires c κs = next-fits (c .before .before .before .loop .inv) (search needs)
+
+add-i : tie.Need-add-i Inv-loop μ-loop
+add-i c = search needs
+
+loop-less : tie.Need-loop-less Inv-loop μ-loop
+loop-less c = omega arith
+
+loop-again : tie.Need-loop-again Inv-loop μ-loop
+loop-again c = next-put (c .before .before .before .before .before .before .loop .inv) (search needs) (c .before .before .put-separated .ensures .0) (c .before .before .put-separated .ensures .1) (c .before .before .put-separated .kept .1 .1 .0)
+
+put-end-requires : tie.Need-put-end-requires Inv-loop μ-loop
+put-end-requires c κs = end-fits (c .before .before .loop .inv) (search needs)
+
+same-length : tie.Need-same-length Inv-loop μ-loop
+same-length c = c .before .before .put-end .kept .0 ∙ c .before .before .before .before .before .loop .inv .same
+
+returns : tie.Need-returns Inv-loop μ-loop
+returns c = end-put (c .before .before .before .before .before .loop .inv) (search needs) (c .before .before .put-end .ensures .0) (c .before .before .put-end .ensures .1)
+
+pub put-line-spec : {M : Type 1} → statement M
+put-line-spec =
+    tie.close
+    (tie.spec
+    Inv-loop
+    μ-loop
+    loop-holds
+    mul-put-separated
+    shared-slice-read-put-separated
+    put-separated-requires
+    add-i
+    loop-less
+    loop-again
+    put-end-requires
+    same-length
+    returns)

@@ -1,0 +1,174 @@
+-- How a call ends: the word of its answer, and what its lists then hold. Assumes nothing.
+use Prim.Native.Nat.{ℕ, _+_, _*_, _/_, _%_, _<_}
+use mathlib.Core.Path.{_≡_, refl, sym, ap, _∙_}
+use mathlib.Core.Bool.{Bool, true, false, not}
+use mathlib.Core.List.{List, [], _∷_}
+use native.Mathlib.Omega.{arith}
+use mir.Syntax.{w64}
+use mir.Val.{Fits}
+use borrow.Author.Tests.{eq-eqb, ne-eqb, eqb-true, not-true, not-false}
+use lib.Dec.{eqb}
+use lib.Ieee.{Float}
+use lib.ListN.{length, set}
+use Rattle.corridor.specs.declared.Refusal.{Refusal}
+use Rattle.corridor.specs.declared.Refusal.the-variants.{Length, TableNumber, RoomShares, RampAgain, StateNumber, Demand, QueueOver, Pieces, Sample, Fit, RowValue, Record}
+use Rattle.corridor.specs.declared.Answer.{Answer}
+use Rattle.corridor.specs.declared.Answer.the-variants.{Accepted, Refused}
+use Rattle.corridor.specs.Refusals.{numberOf, placeOf}
+use Rattle.corridor.specs.Checks.{answer}
+use Rattle.corridor.proofs.Ranges.{Between, both-hold}
+use Rattle.period.specs.Period.{PeriodDone}
+use Rattle.run.specs.declared.Ran.{Ran}
+use Rattle.run.specs.Run.{RunDone}
+use Rattle.recut.specs.Recut.{RecutDone}
+use Rattle.diagram.specs.declared.Settings.{Settings}
+use Rattle.diagram.specs.declared.Diagram.{Diagram}
+use Rattle.diagram.specs.declared.RowValues.{RowValues}
+use Rattle.diagram.specs.declared.RowNumbers.{RowNumbers}
+use Rattle.diagram.specs.declared.Calibration.{Calibration}
+use Rattle.diagram.specs.declared.Calibration.the-variants.{Calibrated, NotCalibrated}
+use Rattle.diagram.specs.RowNumbers.{rowNumbers}
+use Rattle.diagram.specs.Calibration.{calibrationChecks, fittedDiagram, fittedValues, calibratedAs, calibrationOf}
+use Rattle.figwimple.specs.Words.{HALF, wordOf, Placed}
+use Rattle.figwimple.specs.Calls.{PeriodCalled, RunCalled, RecutCalled, fiveOf, fourOf, resultsFit, CalibrateCalled}
+use Rattle.figwimple.proofs.Places.{calibration-placed}
+
+-- Words
+
+-- from 1 to 12
+pub numbers : (refusal : Refusal) → Between 1 12 (numberOf refusal)
+numbers Length = record { least = omega arith; most = omega arith }
+numbers (TableNumber cell) = record { least = omega arith; most = omega arith }
+numbers (RoomShares cell) = record { least = omega arith; most = omega arith }
+numbers (RampAgain cell) = record { least = omega arith; most = omega arith }
+numbers (StateNumber cell) = record { least = omega arith; most = omega arith }
+numbers (Demand cell) = record { least = omega arith; most = omega arith }
+numbers (QueueOver cell) = record { least = omega arith; most = omega arith }
+numbers (Pieces cell) = record { least = omega arith; most = omega arith }
+numbers (Sample sample) = record { least = omega arith; most = omega arith }
+numbers Fit = record { least = omega arith; most = omega arith }
+numbers (RowValue value) = record { least = omega arith; most = omega arith }
+numbers (Record place) = record { least = omega arith; most = omega arith }
+
+module _ {answered : Answer} {refusal : Refusal} {number place : ℕ} where
+  pub word-fits : Placed answered → answered ≡ Refused refusal → number ≡ numberOf refusal → place ≡ placeOf refusal → Fits w64 (number * HALF + place)
+  word-fits placed is n p = let low : placeOf refusal < HALF = rw is at placed in record { fits = omega (arith, numbers refusal) }
+
+  pub word-is : answered ≡ Refused refusal → number ≡ numberOf refusal → place ≡ placeOf refusal → number * HALF + place ≡ wordOf answered
+  word-is is n p = rw (is, n, p)
+
+-- a caller takes the word apart: its upper half is the number, its lower half the place, and no refusal is 0
+pub record Tells (word : ℕ) (refusal : Refusal) : Type 0 where
+  pub number : word / HALF ≡ numberOf refusal
+  pub place : word % HALF ≡ placeOf refusal
+  pub not-accepted : word ≡ wordOf Accepted → ⊥
+
+pub word-tells : (refusal : Refusal) → Placed (Refused refusal) → Tells (wordOf (Refused refusal)) refusal
+word-tells refusal placed =
+    record { number = omega arith; place = omega arith; not-accepted = λ e. omega (arith, numbers refusal) }
+
+-- an answer that equals one whose place fits
+pub fits-as : {a b : Answer} → a ≡ b → Placed b → Placed a
+fits-as e fits = rw e fits
+
+-- Periods, runs and re-cuts
+
+pub period-called : {table state demand sheet stateLeft sheetLeft : List ℕ} {a : Answer} {word : ℕ} → PeriodDone table state demand sheet a stateLeft sheetLeft → word ≡ wordOf a → PeriodCalled table state demand sheet word stateLeft sheetLeft
+period-called done e =
+    record {
+      answered = e ∙ ap wordOf (done .answered);
+      leaves = record { answered = refl; leavesState = done .leavesState; leavesSheet = done .leavesSheet };
+    }
+
+pub recut-called : {old state pieces new list left : List ℕ} {a : Answer} {word : ℕ} → RecutDone old state pieces new list a left → word ≡ wordOf a → RecutCalled old state pieces new list word left
+recut-called done e =
+    record { answered = e ∙ ap wordOf (done .answered); leaves = record { answered = refl; leaves = done .leaves } }
+
+one-stored : (list : List ℕ) (x : ℕ) → length list ≡ 1 → set list 0 x ≡ x ∷ []
+one-stored [] x e = absurd (omega (arith, e))
+one-stored (a ∷ []) x e = refl
+one-stored (a ∷ b ∷ rest) x e = absurd (omega (arith, e))
+
+module _ (table state demand sheet periods : List ℕ) where
+  pub periods-refused : (length periods ≡ 1 → ⊥) → {word : ℕ} → word ≡ wordOf (Refused Length) → RunCalled table state demand sheet periods word state sheet periods
+  periods-refused none e =
+      let other = ne-eqb (length periods) 1 none in
+      record { answered = rw other e; leavesState = rw other; leavesSheet = rw other; leavesPeriods = rw other }
+
+  pub run-called : length periods ≡ 1 → {ran : Ran} {stateLeft sheetLeft : List ℕ} {word : ℕ} → RunDone table state demand sheet ran stateLeft sheetLeft → word ≡ wordOf (ran .answer) → RunCalled table state demand sheet periods word stateLeft sheetLeft (set periods 0 (ran .periods))
+  run-called one {ran} done e =
+      let same = eq-eqb (length periods) 1 one in
+      record {
+        answered = rw same (e ∙ ap wordOf (done .answered));
+        leavesState = rw same (done .leavesState);
+        leavesSheet = rw same (done .leavesSheet);
+        leavesPeriods = rw same (one-stored periods (ran .periods) one ∙ ap (λ x. x ∷ []) (done .counted));
+      }
+
+-- Calibrations
+
+pub five-stored : (list : List Float) (d : Diagram) → length list ≡ 5 → set (set (set (set (set list 0 (d .speed)) 1 (d .capacity)) 2 (d .critical)) 3 (d .wave)) 4 (d .jam) ≡ fiveOf d
+five-stored (a ∷ b ∷ c ∷ p ∷ q ∷ []) d e = refl
+five-stored [] d e = absurd (omega (arith, e))
+five-stored (a ∷ []) d e = absurd (omega (arith, e))
+five-stored (a ∷ b ∷ []) d e = absurd (omega (arith, e))
+five-stored (a ∷ b ∷ c ∷ []) d e = absurd (omega (arith, e))
+five-stored (a ∷ b ∷ c ∷ p ∷ []) d e = absurd (omega (arith, e))
+five-stored (a ∷ b ∷ c ∷ p ∷ q ∷ r ∷ rest) d e = absurd (omega (arith, e))
+
+pub four-stored : (list : List ℕ) (n : RowNumbers) → length list ≡ 4 → set (set (set (set list 0 (n .v)) 1 (n .w)) 2 (n .capacity)) 3 (n .jam) ≡ fourOf n
+four-stored (a ∷ b ∷ c ∷ p ∷ []) n e = refl
+four-stored [] n e = absurd (omega (arith, e))
+four-stored (a ∷ []) n e = absurd (omega (arith, e))
+four-stored (a ∷ b ∷ []) n e = absurd (omega (arith, e))
+four-stored (a ∷ b ∷ c ∷ []) n e = absurd (omega (arith, e))
+four-stored (a ∷ b ∷ c ∷ p ∷ q ∷ rest) n e = absurd (omega (arith, e))
+
+not-calibrated-by : (a : Answer) (diagram : Diagram) (values : RowValues) {refusal : Refusal} → NotCalibrated refusal ≡ calibratedAs a diagram values → Refused refusal ≡ a
+not-calibrated-by Accepted diagram values e = cc
+not-calibrated-by (Refused r) diagram values e = cc
+
+calibrated-by : (a : Answer) (diagram : Diagram) (values : RowValues) {fitted : Diagram} {numbers : RowNumbers} → Calibrated fitted numbers ≡ calibratedAs a diagram values → (Accepted ≡ a) × ((fitted ≡ diagram) × (numbers ≡ rowNumbers values))
+calibrated-by Accepted diagram values e = (refl, (cc, cc))
+calibrated-by (Refused r) diagram values e = (cc, (cc, cc))
+
+module _ (settings : Settings) (flow occupancy diagram : List Float) (row : List ℕ) {fits : Bool} (test : fits ≡ resultsFit diagram row) where
+  pub results-refused : not fits ≡ true → {word : ℕ} → word ≡ wordOf (Refused Length) → CalibrateCalled settings flow occupancy diagram row word diagram row
+  results-refused fails e =
+      let none = sym test ∙ not-true _ fails in
+      record { answered = rw none e; leavesDiagram = rw none; leavesRow = rw none }
+
+  module _ (passes : not fits ≡ false) where
+    fit : resultsFit diagram row ≡ true
+    fit = sym test ∙ not-false _ passes
+
+    pub diagram-length : length diagram ≡ 5
+    diagram-length = eqb-true _ _ (both-hold (eqb (length diagram) 5) (eqb (length row) 4) fit .0)
+
+    pub row-length : length row ≡ 4
+    row-length = eqb-true _ _ (both-hold (eqb (length diagram) 5) (eqb (length row) 4) fit .1)
+
+    module _ {found : Calibration} (is : found ≡ calibrationOf settings flow occupancy) where
+      refusal-is : {refusal : Refusal} → found ≡ NotCalibrated refusal → Refused refusal ≡ answer (calibrationChecks settings flow occupancy)
+      refusal-is e =
+          not-calibrated-by (answer (calibrationChecks settings flow occupancy)) (fittedDiagram settings flow occupancy) (fittedValues settings flow occupancy) (sym e ∙ is)
+
+      pub refusal-placed : {refusal : Refusal} → found ≡ NotCalibrated refusal → Placed (Refused refusal)
+      refusal-placed e = fits-as (refusal-is e) (calibration-placed settings flow occupancy)
+
+      pub calibrate-refused : {refusal : Refusal} {word : ℕ} → found ≡ NotCalibrated refusal → word ≡ wordOf (Refused refusal) → CalibrateCalled settings flow occupancy diagram row word diagram row
+      calibrate-refused e w =
+          record {
+            answered = rw (fit, ← refusal-is e) w;
+            leavesDiagram = rw (fit, ← refusal-is e);
+            leavesRow = rw (fit, ← refusal-is e);
+          }
+
+      pub calibrate-done : {fitted : Diagram} {numbers : RowNumbers} {diagramLeft : List Float} {rowLeft : List ℕ} → found ≡ Calibrated fitted numbers → diagramLeft ≡ fiveOf fitted → rowLeft ≡ fourOf numbers → CalibrateCalled settings flow occupancy diagram row 0 diagramLeft rowLeft
+      calibrate-done e five four =
+          let told = calibrated-by (answer (calibrationChecks settings flow occupancy)) (fittedDiagram settings flow occupancy) (fittedValues settings flow occupancy) (sym e ∙ is) in
+          record {
+            answered = rw (fit, ← told .0);
+            leavesDiagram = rw (fit, ← told .0) (five ∙ ap fiveOf (told .1 .0));
+            leavesRow = rw (fit, ← told .0) (four ∙ ap fourOf (told .1 .1));
+          }

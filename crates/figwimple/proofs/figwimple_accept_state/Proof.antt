@@ -1,0 +1,22 @@
+-- `figwimple::figwimple_accept_state` meets its contract. Assumes nothing.
+use borrow.Author.Needs.{needs}
+use mathlib.Core.Path.{ap, _∙_}
+use Rattle.figwimple.specs.Words.{wordOf}
+use Rattle.figwimple.proofs.Places.{state-placed}
+use Rattle.figwimple.proofs.Called.{fits-as}
+use Rattle.figwimple.proofs.figwimple_accept_state.Statement.{statement}
+use Rattle.figwimple.proofs.figwimple_accept_state.Tie as tie
+
+accept-state-requires : tie.Need-accept-state-requires
+accept-state-requires c κs = search needs
+
+word-requires : tie.Need-word-requires
+word-requires c κs =
+    let lists = c .before .before .before .args in
+    fits-as (c .accept-state .ensures) (state-placed (lists .table .now) (lists .state .now))
+
+returns : tie.Need-returns
+returns c = c .word .ensures ∙ ap wordOf (c .before .accept-state .ensures)
+
+pub figwimple-accept-state-spec : {M : Type 1} → statement M
+figwimple-accept-state-spec = tie.close (tie.spec accept-state-requires word-requires returns)

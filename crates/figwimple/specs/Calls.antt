@@ -1,0 +1,61 @@
+-- What each exported function answers, and what each lent list then holds: as the promise of the function that it calls says.
+use Prim.Native.Nat.{ℕ}
+use mathlib.Core.Path.{_≡_}
+use mathlib.Core.Bool.{Bool, _&&_}
+use mathlib.Core.List.{List, [], _∷_}
+use lib.Dec.{eqb}
+use lib.Ieee.{Float}
+use lib.ListN.{length}
+use Rattle.whole.specs.Search.{pick}
+use Rattle.corridor.specs.declared.Answer.{Answer}
+use Rattle.corridor.specs.Checks.{answer, whenAccepted}
+use Rattle.period.specs.Period.{periodChecks, PeriodDone}
+use Rattle.run.specs.Run.{periodsRun, runAnswer, stateAfterPeriods, sheetAfterPeriods}
+use Rattle.recut.specs.Recut.{recutChecks, RecutDone}
+use Rattle.diagram.specs.declared.Settings.{Settings}
+use Rattle.diagram.specs.declared.Diagram.{Diagram}
+use Rattle.diagram.specs.declared.RowNumbers.{RowNumbers}
+use Rattle.diagram.specs.RowNumbers.{rowNumbers}
+use Rattle.diagram.specs.Calibration.{calibrationChecks, fittedDiagram, fittedValues}
+use Rattle.figwimple.specs.Words.{wordOf, withLists}
+
+pub record PeriodCalled (table state demand sheet : List ℕ) (word : ℕ) (stateLeft sheetLeft : List ℕ) : Type 0 where
+  pub answered : word ≡ wordOf (answer (periodChecks table state demand sheet))
+  pub leaves : PeriodDone table state demand sheet (answer (periodChecks table state demand sheet)) stateLeft sheetLeft
+
+-- the list of the periods completed has length 1; where it has not, every list stays as it came
+abbrev pub periodsFit : List ℕ → Bool
+periodsFit periods = eqb (length periods) 1
+
+pub record RunCalled (table state demand sheet periods : List ℕ) (word : ℕ) (stateLeft sheetLeft periodsLeft : List ℕ) : Type 0 where
+  pub answered : word ≡ wordOf (withLists (periodsFit periods) (runAnswer table state demand sheet))
+  pub leavesState : stateLeft ≡ pick (periodsFit periods) (stateAfterPeriods table state demand (periodsRun table state demand sheet)) state
+  pub leavesSheet : sheetLeft ≡ pick (periodsFit periods) (sheetAfterPeriods table state demand sheet (periodsRun table state demand sheet)) sheet
+  pub leavesPeriods : periodsLeft ≡ pick (periodsFit periods) (periodsRun table state demand sheet ∷ []) periods
+
+pub record RecutCalled (old state pieces new list : List ℕ) (word : ℕ) (left : List ℕ) : Type 0 where
+  pub answered : word ≡ wordOf (answer (recutChecks old state pieces new list))
+  pub leaves : RecutDone old state pieces new list (answer (recutChecks old state pieces new list)) left
+
+abbrev pub settingsOf : Float → ℕ → ℕ → Float → ℕ → ℕ → Settings
+settingsOf g lanes t l start end = record { g = g; lanes = lanes; period = t; cell = l; start = start; end = end }
+
+-- the five doubles of a diagram, the four numbers of a row, and the lists that are lent for them
+abbrev pub fiveOf : Diagram → List Float
+fiveOf d = d .speed ∷ d .capacity ∷ d .critical ∷ d .wave ∷ d .jam ∷ []
+
+abbrev pub fourOf : RowNumbers → List ℕ
+fourOf numbers = numbers .v ∷ numbers .w ∷ numbers .capacity ∷ numbers .jam ∷ []
+
+abbrev pub resultsFit : List Float → List ℕ → Bool
+resultsFit diagram row = eqb (length diagram) 5 && eqb (length row) 4
+
+-- 1, 9, 10 and 11 of a calibration and of its lists
+abbrev pub calibrateAnswer : Settings → List Float → List Float → List Float → List ℕ → Answer
+calibrateAnswer settings flow occupancy diagram row =
+    withLists (resultsFit diagram row) (answer (calibrationChecks settings flow occupancy))
+
+pub record CalibrateCalled (settings : Settings) (flow occupancy diagram : List Float) (row : List ℕ) (word : ℕ) (diagramLeft : List Float) (rowLeft : List ℕ) : Type 0 where
+  pub answered : word ≡ wordOf (calibrateAnswer settings flow occupancy diagram row)
+  pub leavesDiagram : diagramLeft ≡ whenAccepted (calibrateAnswer settings flow occupancy diagram row) (fiveOf (fittedDiagram settings flow occupancy)) diagram
+  pub leavesRow : rowLeft ≡ whenAccepted (calibrateAnswer settings flow occupancy diagram row) (fourOf (rowNumbers (fittedValues settings flow occupancy))) row

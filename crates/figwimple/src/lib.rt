@@ -1,0 +1,168 @@
+// The library for callers in C, Rust and Python: each function answers one word, 0 for accepted, else number × 2^32 + place, and
+// further results go to lent lists. Every function takes every input.
+ghost use mathlib.Core.Path.{_≡_};
+ghost use lib.ListN.{length};
+ghost use Rattle.corridor.specs.Checks.{answer};
+ghost use Rattle.corridor.specs.Acceptance.{tableChecks, stateChecks, rowChecks};
+ghost use Rattle.figwimple.specs.Words.{wordOf, Placed};
+ghost use Rattle.figwimple.specs.Calls.{PeriodCalled, RunCalled, RecutCalled, settingsOf, fiveOf, fourOf, resultsFit, CalibrateCalled};
+use corridor::Answer;
+use corridor::Refusal;
+use diagram::Calibration;
+use diagram::Diagram;
+use diagram::RowNumbers;
+use diagram::Settings;
+
+// The word of an answer whose place is below 2^32.
+fn word(answered: Answer) -> u64
+    requires { ⌜ Placed answered ⌝ }
+    ensures { λ r. ⌜ r ≡ wordOf answered ⌝ }
+{
+    match answered {
+        Answer::Accepted => 0,
+        Answer::Refused(refusal) => {
+            let number = corridor::number(refusal) as u64;
+            let place = corridor::place(refusal) as u64;
+            number * 4_294_967_296 + place
+        }
+    }
+}
+
+// Whether a table is accepted: numbers 1 to 4.
+#[no_mangle]
+pub extern "C" fn figwimple_accept_table(table: &[u32]) -> u64
+    ensures { λ r. ⌜ r ≡ wordOf (answer (tableChecks (now (table .entry)))) ⌝ }
+{
+    word(corridor::accept_table(table))
+}
+
+// Whether a state is accepted under a table: numbers 1 to 5.
+#[no_mangle]
+pub extern "C" fn figwimple_accept_state(table: &[u32], state: &[u32]) -> u64
+    ensures { λ r. ⌜ r ≡ wordOf (answer (stateChecks (now (table .entry)) (now (state .entry)))) ⌝ }
+{
+    word(corridor::accept_state(table, state))
+}
+
+// Whether a demand row is accepted under a table and a state: numbers 1 to 7.
+#[no_mangle]
+pub extern "C" fn figwimple_accept_row(table: &[u32], state: &[u32], demand: &[u32]) -> u64
+    ensures { λ r. ⌜ r ≡ wordOf (answer (rowChecks (now (table .entry)) (now (state .entry)) (now (demand .entry)))) ⌝ }
+{
+    word(corridor::accept_row(table, state, demand))
+}
+
+// One period: numbers 1 to 7.
+#[no_mangle]
+pub extern "C" fn figwimple_period(
+    table: &[u32],
+    state: &mut [u32],
+    demand: &[u32],
+    sheet: &mut [u32],
+) -> u64
+    ensures { λ r. ⌜ PeriodCalled (now (table .entry)) (now (state .entry)) (now (demand .entry)) (now (sheet .entry)) r (now (state .exit)) (now (sheet .exit)) ⌝ }
+{
+    word(period::period(table, state, demand, sheet))
+}
+
+// A run of demand rows end to end: numbers 1 to 5, then 6 and 7 at each row. The periods completed go to a list of length 1.
+#[no_mangle]
+pub extern "C" fn figwimple_run(
+    table: &[u32],
+    state: &mut [u32],
+    demand: &[u32],
+    sheet: &mut [u32],
+    periods: &mut [u32],
+) -> u64
+    ensures { λ r. ⌜ RunCalled (now (table .entry)) (now (state .entry)) (now (demand .entry)) (now (sheet .entry)) (now (periods .entry)) r (now (state .exit)) (now (sheet .exit)) (now (periods .exit)) ⌝ }
+{
+    if periods.len() != 1 {
+        return word(Answer::Refused(Refusal::Length));
+    }
+    let ran = run::run(table, state, demand, sheet);
+    periods[0] = ran.periods as u32;
+    let answered = ran.answer;
+    word(answered)
+}
+
+// The re-cut of a table and a state into a new table: numbers 1 to 5 and 8. The new state goes to a list of its own.
+#[no_mangle]
+pub extern "C" fn figwimple_recut(
+    old: &[u32],
+    state: &[u32],
+    pieces: &[u32],
+    new: &[u32],
+    list: &mut [u32],
+) -> u64
+    ensures { λ r. ⌜ RecutCalled (now (old .entry)) (now (state .entry)) (now (pieces .entry)) (now (new .entry)) (now (list .entry)) r (now (list .exit)) ⌝ }
+{
+    word(recut::recut(old, state, pieces, new, list))
+}
+
+// Stores the five doubles of a diagram.
+fn put_diagram(fitted: Diagram, list: &mut [f64])
+    requires { ⌜ length (now list) ≡ 5 ⌝ }
+    ensures { λ _. ⌜ now (list .exit) ≡ fiveOf fitted ⌝ }
+{
+    list[0] = fitted.speed;
+    list[1] = fitted.capacity;
+    list[2] = fitted.critical;
+    list[3] = fitted.wave;
+    list[4] = fitted.jam;
+}
+
+// Stores the four numbers of a row.
+fn put_row(numbers: RowNumbers, list: &mut [u32])
+    requires { ⌜ length (now list) ≡ 4 ⌝ }
+    ensures { λ _. ⌜ now (list .exit) ≡ fourOf numbers ⌝ }
+{
+    list[0] = numbers.v;
+    list[1] = numbers.w;
+    list[2] = numbers.capacity;
+    list[3] = numbers.jam;
+}
+
+// Number 1 of the lists for a calibration's results.
+fn results_fit(diagram: &[f64], row: &[u32]) -> bool
+    ensures { λ r. ⌜ r ≡ resultsFit (now (diagram .entry)) (now (row .entry)) ⌝ }
+{
+    (diagram.len() == 5) & (row.len() == 4)
+}
+
+// From samples and settings to the diagram's five doubles and the row's four numbers: numbers 1, 9, 10 and 11.
+#[no_mangle]
+pub extern "C" fn figwimple_calibrate(
+    flow: &[f64],
+    occupancy: &[f64],
+    g: f64,
+    lanes: u32,
+    t: u32,
+    l: f64,
+    start: usize,
+    end: usize,
+    diagram: &mut [f64],
+    row: &mut [u32],
+) -> u64
+    ensures { λ r. ⌜ CalibrateCalled (settingsOf g lanes t l start end) (now (flow .entry)) (now (occupancy .entry)) (now (diagram .entry)) (now (row .entry)) r (now (diagram .exit)) (now (row .exit)) ⌝ }
+{
+    if !results_fit(diagram, row) {
+        return word(Answer::Refused(Refusal::Length));
+    }
+    let settings = Settings {
+        g,
+        lanes,
+        period: t,
+        cell: l,
+        start,
+        end,
+    };
+    let found = diagram::calibrate(flow, occupancy, settings);
+    match found {
+        Calibration::NotCalibrated(refusal) => word(Answer::Refused(refusal)),
+        Calibration::Calibrated(fitted, numbers) => {
+            put_diagram(fitted, diagram);
+            put_row(numbers, row);
+            0
+        }
+    }
+}

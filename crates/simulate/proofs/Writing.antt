@@ -1,0 +1,87 @@
+-- The lines of a period, one after the other. Assumes nothing.
+use Prim.Native.Nat.{ℕ, suc, _+_, _-_, _*_, _^_, _≤_, _<_}
+use mathlib.Core.Path.{_≡_, refl, sym, ap, _∙_}
+use mathlib.Core.List.{List, [], _∷_, _++_}
+use native.Mathlib.Numerals.{add-one}
+use native.Mathlib.Omega.{arith}
+use borrow.Author.Tests.{le-leb}
+use lib.ListN.{length, getD, set, drop, length-append, drop-of-length-le}
+use lib.Seq.{sets, drop-cons}
+use Rattle.whole.specs.Lists.{build}
+use Rattle.whole.proofs.Lists.{build-length, build-at}
+use Rattle.digits.specs.Lines.{lineText}
+use Rattle.digits.specs.Writes.{written, afterWriting}
+use Rattle.digits.specs.declared.Written.the-variants.{To, NoRoom}
+use Rattle.digits.proofs.Lines.{line-at-most}
+use Rattle.digits.proofs.Stores.{rest-of, stores-after}
+use Rattle.text.specs.Texts.{textOf}
+use Rattle.simulate.specs.Lines.{entryRecord, cellRecord, periodText}
+
+-- a line of seven numbers has room
+pub line-fits : (numbers out : List ℕ) (at : ℕ) → length numbers ≡ 7 → ((i : ℕ) → getD numbers i 0 < 2 ^ 64) → at + 149 ≤ length out
+    → (at + length (lineText numbers) ≤ length out) × (at + length (lineText numbers) ≤ at + 149)
+line-fits numbers out at seven small room =
+    let most = line-at-most numbers small in
+    (omega arith, omega arith)
+
+pub written-to : (out bytes : List ℕ) (at : ℕ) → at + length bytes ≤ length out
+    → (written out at bytes ≡ To (at + length bytes)) × (afterWriting out at bytes ≡ sets out at bytes)
+unfolding written afterWriting
+written-to out bytes at fits = (rw (le-leb (at + length bytes) (length out) fits), rw (le-leb (at + length bytes) (length out) fits))
+
+-- the cells' lines from the one of index i on
+module _ (k n : ℕ) (state sheet : List ℕ) where
+  abbrev rows : List (List ℕ)
+  rows = build n (cellRecord k n state sheet)
+
+  pub record Writing (out₀ : List ℕ) (at i : ℕ) (out : List ℕ) (to : ℕ) : Type 0 where
+    pub stores : sets out to (textOf (drop i rows)) ≡ sets out₀ at (textOf rows)
+    pub ends : to + length (textOf (drop i rows)) ≡ at + length (textOf rows)
+    pub room : to + 149 * (n - i) ≤ length out
+    pub same : length out ≡ length out₀
+
+  pub none-written : (out : List ℕ) (at : ℕ) → at + 149 * n ≤ length out → Writing out at 0 out at
+  none-written out at room = record { stores = refl; ends = refl; room = omega arith; same = refl }
+
+  next-row : (i : ℕ) → i < n → drop i rows ≡ cellRecord k n state sheet i ∷ drop (i + 1) rows
+  next-row i h =
+      let within : i < length rows = rw (build-length n (cellRecord k n state sheet)) h in
+      drop-cons rows i [] within
+      ∙ ap (λ (row : List ℕ). row ∷ drop (suc i) rows) (build-at n (cellRecord k n state sheet) i [] h)
+      ∙ ap (λ (j : ℕ). cellRecord k n state sheet i ∷ drop j rows) (sym (add-one i))
+
+  pub cell-written : {out₀ out later : List ℕ} {at i to after : ℕ} → Writing out₀ at i out to → i < n → after ≡ to + length (lineText (cellRecord k n state sheet i)) → after ≤ to + 149
+      → later ≡ sets out to (lineText (cellRecord k n state sheet i)) → length later ≡ length out → Writing out₀ at (i + 1) later after
+  unfolding textOf
+  cell-written {out = out} {i = i} {to = to} writing h e most s same =
+      let line = lineText (cellRecord k n state sheet i) in
+      let rest = textOf (drop (i + 1) rows) in
+      let stored = rw (next-row i h) at (writing .stores) in
+      let ended = rw (next-row i h) at (writing .ends) in
+      record {
+        stores = rw (s, e) (sym (stores-after out to line rest) ∙ stored);
+        ends = rw e (omega (arith, length-append line rest, ended));
+        room = omega (arith, writing .room);
+        same = same ∙ writing .same;
+      }
+
+  pub all-written : {out₀ out : List ℕ} {at i to : ℕ} → Writing out₀ at i out to → n ≤ i → (to ≡ at + length (textOf rows)) × (out ≡ sets out₀ at (textOf rows))
+  unfolding textOf
+  all-written {i = i} writing h =
+      let past : length rows ≤ i = rw (build-length n (cellRecord k n state sheet)) h in
+      let none = drop-of-length-le rows past in
+      (omega (arith, rw none at (writing .ends)), rw none at (writing .stores))
+
+  -- the entry's line, then the cells'
+  pub period-written : (out₀ : List ℕ) (at : ℕ) {out later : List ℕ} {to after : ℕ} → to ≡ at + length (lineText (entryRecord k state sheet)) → out ≡ sets out₀ at (lineText (entryRecord k state sheet))
+      → after ≡ to + length (textOf rows) → later ≡ sets out to (textOf rows) → (after ≡ at + length (periodText k n state sheet)) × (later ≡ sets out₀ at (periodText k n state sheet))
+  unfolding periodText
+  period-written out₀ at e s e′ s′ =
+      (omega (arith, length-append (lineText (entryRecord k state sheet)) (textOf rows), e, e′), s′ ∙ rw (s, e) (sym (stores-after out₀ at (lineText (entryRecord k state sheet)) (textOf rows))))
+
+-- bytes copied one after the other
+pub one-copied : (bytes out : List ℕ) (i : ℕ) → i < length bytes → sets (set out i (getD bytes i 0)) (i + 1) (drop (i + 1) bytes) ≡ sets out i (drop i bytes)
+one-copied bytes out i h = rw (rest-of bytes i h, add-one)
+
+pub all-copied : (bytes out : List ℕ) (i : ℕ) → length bytes ≤ i → sets out i (drop i bytes) ≡ out
+all-copied bytes out i h = rw (drop-of-length-le bytes h)
