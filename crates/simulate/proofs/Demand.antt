@@ -15,13 +15,11 @@ use Rattle.text.specs.declared.Read.the-variants.{Record, Part, Broken}
 use Rattle.text.specs.declared.End.{End}
 use Rattle.text.specs.declared.End.the-variants.{Nothing, Last, Cut}
 use Rattle.text.proofs.Pieces.{reaches-on}
-use Rattle.corridor.specs.declared.Refusal.{Refusal}
 use Rattle.corridor.specs.declared.Answer.{Answer}
 use Rattle.corridor.specs.declared.Answer.the-variants.{Accepted, Refused}
 use Rattle.corridor.specs.Layout.{cells, demandLength}
 use Rattle.period.specs.Sharing.{asymmetric}
 use Rattle.period.specs.Period.{stateAfter}
-use Rattle.simulate.specs.Files.{counted}
 use Rattle.simulate.specs.Lines.{stopText, broken, refusedIn}
 use Rattle.simulate.specs.Turns.{Did, reads, ends, breaks, refuses, passes, didRow, did, didEnd, didText, rowAnswer, linesOf}
 use Rattle.simulate.specs.Program.{Records, lastRecord, recordsFrom, recordsOn, periodsFrom, sheetText}

@@ -18,7 +18,6 @@ use Rattle.simulate.specs.Files.{cellsFound, stateFound, acceptedThen}
 use Rattle.simulate.specs.declared.Stop.{Stop}
 use Rattle.simulate.specs.declared.File.{File}
 use Rattle.simulate.specs.declared.File.the-variants.{Holds, BrokenAt, Lost}
-use Rattle.simulate.specs.declared.Found.{Found}
 use Rattle.simulate.specs.declared.Found.the-variants.{Go, Halt}
 
 no-halt : {A : Type 0} (stop : Stop) (n : ℕ) → Halt stop ≡ Go n → A

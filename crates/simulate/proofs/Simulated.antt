@@ -1,5 +1,5 @@
 -- Any run of the program's steps, over files cut into chunks in any way, writes what the program is defined to write. Assumes nothing.
-use Prim.Native.Nat.{ℕ, zero, suc, _+_, _*_, _/_, _≤_, _<_}
+use Prim.Native.Nat.{ℕ, suc, _+_, _*_, _≤_, _<_}
 use mathlib.Core.Path.{_≡_, refl, sym, ap, _∙_}
 use mathlib.Core.Bool.{Bool, true, false}
 use mathlib.Core.List.{List, [], _∷_, _++_}
@@ -17,15 +17,14 @@ use Rattle.text.specs.declared.Text.{Text}
 use Rattle.text.specs.declared.Text.the-variants as Text
 use Rattle.text.proofs.Accepted.{accepted-count}
 use Rattle.corridor.specs.Layout.{cells, stateLength, demandLength}
-use Rattle.simulate.specs.Lines.{HEADER, stopText, broken}
+use Rattle.simulate.specs.Lines.{HEADER, broken}
 use Rattle.corridor.specs.Checks.{answer}
 use Rattle.corridor.specs.Acceptance.{stateChecks}
 use Rattle.simulate.specs.Files.{cellsFound, stateFound, acceptedThen}
 use Rattle.simulate.specs.Program.{Given, missing, text, textFile, fileGiven, numbersGiven, zeros, recordsOn, sheetText, demandText, orHalt, simulated}
-use Rattle.simulate.specs.Steps.{Read, absent, chunks, given, piecesOn, readFile, Writes, cells-stop, state-stop, demand-stop, runs}
+use Rattle.simulate.specs.Steps.{Read, absent, chunks, given, readFile, Writes, cells-stop, state-stop, demand-stop, runs}
 use Rattle.simulate.specs.declared.File.{File}
 use Rattle.simulate.specs.declared.File.the-variants.{Holds, BrokenAt, Lost}
-use Rattle.simulate.specs.declared.Found.{Found}
 use Rattle.simulate.specs.declared.Found.the-variants.{Go, Halt}
 use Rattle.simulate.specs.declared.Reading.the-variants.{On}
 use Rattle.simulate.proofs.Texts.{file-is-text, pieces-are-whole}

@@ -1,13 +1,13 @@
 -- A file read chunk after chunk is found to be what its whole text is, and its numbers are stored. Assumes nothing.
-use Prim.Native.Nat.{ℕ, zero, suc, _+_, _≤_, _<_}
+use Prim.Native.Nat.{ℕ, suc, _+_, _≤_, _<_}
 use mathlib.Core.Path.{_≡_, refl, sym, ap, _∙_}
 use mathlib.Core.Bool.{Bool, true, false}
-use mathlib.Core.List.{List, [], _∷_, _++_}
+use mathlib.Core.List.{List, [], _∷_}
 use native.Mathlib.Numerals.{add-one}
 use native.Mathlib.Omega.{arith}
 use borrow.Author.Tests.{lt-ltb, ltb-false}
 use lib.Dec.{ltb}
-use lib.ListN.{length, take, set, length-set, length-append}
+use lib.ListN.{length, set, length-set}
 use lib.Seq.{sets, set-out}
 use Rattle.whole.specs.Search.{pick}
 use Rattle.digits.specs.Lines.{CR}
@@ -17,7 +17,7 @@ use Rattle.text.specs.Reads.{textFrom, textOn, numbersFrom, numbersOn, endOf}
 use Rattle.text.specs.declared.Scan.{Scan}
 use Rattle.text.specs.declared.Step.{Step}
 use Rattle.text.specs.declared.Step.the-variants.{More, Field, Complete, Breaks}
-use Rattle.text.specs.declared.End.the-variants.{Nothing, Last, Cut}
+use Rattle.text.specs.declared.End.the-variants.{Nothing, Cut}
 use Rattle.text.specs.declared.Text.{Text}
 use Rattle.text.specs.declared.Text.the-variants as Text
 use Rattle.simulate.specs.Files as files
@@ -25,9 +25,7 @@ use Rattle.simulate.specs.Files.{counted, nextIndex, fileOf, fileOn, fil
 use Rattle.simulate.specs.Program.{textFile}
 use Rattle.simulate.specs.Steps.{piecesOn}
 use Rattle.simulate.specs.declared.Reading.{Reading}
-use Rattle.simulate.specs.declared.Reading.the-variants.{On, Broken}
-use Rattle.simulate.specs.declared.File.{File}
-use Rattle.simulate.specs.declared.File.the-variants.{Holds, BrokenAt, Lost}
+use Rattle.simulate.specs.declared.Reading.the-variants.{On}
 use Rattle.simulate.proofs.FilePieces.{stays-broken, file-in-pieces}
 
 -- within 64 bits a count goes on

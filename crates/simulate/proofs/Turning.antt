@@ -16,11 +16,11 @@ use Rattle.text.proofs.Pieces.{reaches-on}
 use Rattle.corridor.specs.declared.Refusal.{Refusal}
 use Rattle.corridor.specs.declared.Answer.{Answer}
 use Rattle.corridor.specs.declared.Answer.the-variants.{Accepted, Refused}
-use Rattle.corridor.specs.Layout.{cells, stateLength, demandLength}
+use Rattle.corridor.specs.Layout.{cells, demandLength}
 use Rattle.corridor.specs.Checks.{answer}
 use Rattle.corridor.specs.Acceptance.{tableLengthFits, stateLengthsFit, lengths, stateNumbers, stateChecks}
 use Rattle.corridor.proofs.Answers.{accepted-passes}
-use Rattle.corridor.proofs.Ranges.{both-hold, state-length}
+use Rattle.corridor.proofs.Ranges.{both-hold}
 use Rattle.period.specs.Sharing.{asymmetric}
 use Rattle.period.specs.Period.{sheetLength, sheetOf, stateAfter, RowDone}
 use Rattle.period.proofs.Fair.{asymmetric-is-fair}
@@ -28,7 +28,7 @@ use Rattle.period.proofs.Reading.{after-length, sheet-length}
 use Rattle.period.proofs.Again.{state-stays-accepted}
 use Rattle.period.proofs.Rows.{same-length-fits}
 use Rattle.simulate.specs.Lines.{periodText, stopText, broken, refusedIn}
-use Rattle.simulate.specs.Turns.{Did, reads, ends, breaks, refuses, passes, didRow, did, didEnd, didText, turnOf, whenPassed, rowAnswer, linesOf, Turned, Ready, Onward, StillReady}
+use Rattle.simulate.specs.Turns.{Did, breaks, didRow, did, didText, turnOf, whenPassed, rowAnswer, linesOf, Turned, Ready, Onward, StillReady}
 use Rattle.simulate.specs.declared.Stop.{Stop}
 use Rattle.simulate.specs.declared.Run.{Run}
 use Rattle.simulate.specs.declared.Run.the-variants.{On, Finished}

@@ -1,7 +1,7 @@
 -- The lines of a period, one after the other. Assumes nothing.
 use Prim.Native.Nat.{ℕ, suc, _+_, _-_, _*_, _^_, _≤_, _<_}
 use mathlib.Core.Path.{_≡_, refl, sym, ap, _∙_}
-use mathlib.Core.List.{List, [], _∷_, _++_}
+use mathlib.Core.List.{List, [], _∷_}
 use native.Mathlib.Numerals.{add-one}
 use native.Mathlib.Omega.{arith}
 use borrow.Author.Tests.{le-leb}
@@ -11,7 +11,7 @@ use Rattle.whole.specs.Lists.{build}
 use Rattle.whole.proofs.Lists.{build-length, build-at}
 use Rattle.digits.specs.Lines.{lineText}
 use Rattle.digits.specs.Writes.{written, afterWriting}
-use Rattle.digits.specs.declared.Written.the-variants.{To, NoRoom}
+use Rattle.digits.specs.declared.Written.the-variants.{To}
 use Rattle.digits.proofs.Lines.{line-at-most}
 use Rattle.digits.proofs.Stores.{rest-of, stores-after}
 use Rattle.text.specs.Texts.{textOf}

@@ -7,7 +7,6 @@ use lib.ListN.{length, set}
 use Rattle.whole.specs.Search.{pick, within}
 use Rattle.digits.specs.Lines.{CR}
 use Rattle.text.specs.Scans.{begin, feed, untouched}
-use Rattle.text.specs.declared.Scan.{Scan}
 use Rattle.text.specs.declared.Step.{Step}
 use Rattle.text.specs.declared.Step.the-variants.{More, Field, Complete, Breaks}
 use Rattle.corridor.specs.declared.Refusal.the-variants.{Length}
