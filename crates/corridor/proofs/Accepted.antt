@@ -1,16 +1,19 @@
 -- What an accepted table, state and demand row say of each cell. Assumes nothing.
 use Prim.Native.Nat.{ℕ, suc, _+_, _≤_, _<_}
-use mathlib.Core.Path.{_≡_}
+use mathlib.Core.Path.{_≡_, refl, sym}
+use mathlib.Core.Bool.{true, _&&_}
 use mathlib.Core.List.{List, [], _∷_}
 use native.Mathlib.Omega.{arith}
 use borrow.Author.Tests.{leb-true}
 use lib.Dec.{leb}
+use Rattle.whole.specs.Search.{every}
 use Rattle.whole.specs.Share.{ONE}
+use Rattle.whole.proofs.Search.{Passes, passes-every}
 use Rattle.corridor.specs.declared.Answer.the-variants.{Accepted}
 use Rattle.corridor.specs.Layout.{cells, rowAt, entryQueue, countAt, queueAt, entryDemand, onDemandAt, offDemandAt}
-use Rattle.corridor.specs.Checks.{answer}
+use Rattle.corridor.specs.Checks.{Check, answer}
 use Rattle.corridor.specs.Acceptance.{withRamp, givenOff, queueLimit, demandLimit, tableNumbers, stateInRange, stateNumbers, demandNumbers}
-use Rattle.corridor.proofs.Answers.{accepted-passes, accepted-both}
+use Rattle.corridor.proofs.Answers.{accepted-passes, passes-accepted, accepted-both}
 use Rattle.corridor.proofs.Ranges.{InRange, in-range, both-hold}
 
 pub record TableFits (table : List ℕ) : Type 0 where
@@ -55,3 +58,11 @@ row-fits table state demand e =
       entry-holds = leb-true _ _ (holds .0 0 (omega arith));
       queues-hold = λ i h. leb-true _ _ (holds .0 (suc i) (omega arith));
     }
+
+-- 6 and 7 pass where both tests do at every place
+pub every-accepted : (first second : Check) {places : ℕ} → first .places ≡ places → second .places ≡ places → every places (λ p. first .test p && second .test p) ≡ true → Accepted ≡ answer (first ∷ second ∷ [])
+every-accepted first second {places} n m e =
+    let both = passes-every places (λ p. first .test p && second .test p) e in
+    let one : Passes (first .places) (first .test) = rw n (λ p h. both-hold (first .test p) (second .test p) (both p h) .0) in
+    let two : Passes (second .places) (second .test) = rw m (λ p h. both-hold (first .test p) (second .test p) (both p h) .1) in
+    sym (passes-accepted first (answer (second ∷ [])) one (passes-accepted second (answer []) two refl))

@@ -15,6 +15,9 @@ use Rattle.corridor.specs.declared.Answer.the-variants.{Accepted, Refuse
 use Rattle.corridor.specs.Checks.{Check, least, orLater, answer}
 use Rattle.corridor.specs.Acceptance.{lengths}
 
+pub refused-is-not-accepted : (refusal : Refusal) → Refused refusal ≡ Accepted → ⊥
+refused-is-not-accepted refusal e = let z : _≡_ {A = ℕ} 0 1 = cc in omega arith
+
 -- a check that fails at a place is the answer
 pub stops : (check : Check) (later : Answer) {at : ℕ} → at ≡ least check → at < check .places → Refused (check .refusal at) ≡ orLater check later
 unfolding orLater
@@ -24,6 +27,23 @@ stops check later e h = rw (lt-ltb (least check) (check .places) (rw e at h)) (a
 pub passes : (check : Check) {a later : Answer} {at : ℕ} → at ≡ least check → check .places ≤ at → a ≡ later → a ≡ orLater check later
 unfolding orLater
 passes check e h next = rw (le-ltb (least check) (check .places) (rw e at h)) next
+
+-- the same from the answer of one check by itself
+pub one-stops : (check : Check) (later : Answer) {refusal : Refusal} → Refused refusal ≡ answer (check ∷ []) → Refused refusal ≡ orLater check later
+unfolding orLater
+one-stops check later {refusal} = by (ltb (least check) (check .places))
+  where
+    by : (fails : Bool) → Refused refusal ≡ pick fails (Refused (check .refusal (least check))) Accepted → Refused refusal ≡ pick fails (Refused (check .refusal (least check))) later
+    by true e = e
+    by false e = absurd (refused-is-not-accepted refusal e)
+
+pub one-passes : (check : Check) {a later : Answer} → Accepted ≡ answer (check ∷ []) → a ≡ later → a ≡ orLater check later
+unfolding orLater
+one-passes check {a} {later} e next = by (ltb (least check) (check .places)) e
+  where
+    by : (fails : Bool) → Accepted ≡ pick fails (Refused (check .refusal (least check))) Accepted → a ≡ pick fails (Refused (check .refusal (least check))) later
+    by true e = absurd (refused-is-not-accepted (check .refusal (least check)) (sym e))
+    by false e = next
 
 -- r tells whether the lengths fit
 pub lengths-fail : (later : Answer) {fit r : Bool} → r ≡ fit → not r ≡ true → Refused Length ≡ orLater (lengths fit) later
@@ -62,9 +82,6 @@ refused-stays first later e = rw (in-turn first later, ← e)
 
 pub accepted-goes-on : (first later : List Check) {a : Answer} → Accepted ≡ answer first → a ≡ answer later → a ≡ answer (first ++ later)
 accepted-goes-on first later e next = rw (in-turn first later, ← e) next
-
-pub refused-is-not-accepted : (refusal : Refusal) → Refused refusal ≡ Accepted → ⊥
-refused-is-not-accepted refusal e = let z : _≡_ {A = ℕ} 0 1 = cc in omega arith
 
 none-fails-reaches : (check : Check) → Passes (check .places) (check .test) → check .places ≤ least check
 none-fails-reaches check all = omega (arith, none-fails (check .places) (check .test) all)

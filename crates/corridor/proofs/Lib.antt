@@ -1,5 +1,6 @@
 pub mod Answers
 pub mod Ranges
+pub mod Marks
 pub mod Ramps
 pub mod Accepted
 pub mod States

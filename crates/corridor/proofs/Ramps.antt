@@ -1,88 +1,86 @@
 -- A mark for each ramp number tells what number 4 asks: whether it stands at a position already passed. Assumes nothing.
-use Prim.Native.Nat.{ℕ, zero, suc, _+_, _*_, _/_, _%_, _<_}
-use mathlib.Core.Path.{_≡_, refl, sym, ap, ap₂, _∙_}
-use mathlib.Core.Bool.{Bool, true, false, not, _&&_, _||_}
+use Prim.Native.Nat.{ℕ, _+_, _*_, _/_, _%_, _<_}
+use mathlib.Core.Path.{_≡_, refl, sym, ap, _∙_}
+use mathlib.Core.Bool.{Bool, true, false, not, _&&_, _||_, and-true, and-false}
 use mathlib.Core.List.{List}
 use native.Mathlib.Numerals.{add-one}
 use native.Mathlib.Omega.{arith}
 use native.Mathlib.Decide.{ℕ-discrete}
-use borrow.Author.Tests.{eq-eqb, ne-eqb, ltb-true, lt-ltb}
-use lib.Dec.{eqb, ltb}
-use lib.ListN.{length, getD, set, replicate, length-replicate}
-use lib.Seq.{getD-set-same, getD-set-other}
+use borrow.Author.Tests.{eq-eqb, ne-eqb}
+use lib.Dec.{eqb}
+use lib.ListN.{length, replicate, length-replicate, length-set}
 use Rattle.whole.specs.Search.{pick, every}
 use Rattle.whole.proofs.Search.{Passes}
 use Rattle.corridor.specs.declared.Row.{Row}
 use Rattle.corridor.specs.Layout.{cells, rowAt, rampAt}
 use Rattle.corridor.specs.Acceptance.{rowInRange, rampIsNew}
-use Rattle.corridor.proofs.Ranges.{InRange, in-range, both-hold}
+use Rattle.corridor.proofs.Ranges.{InRange, in-range}
+use Rattle.corridor.proofs.Marks.{up, withMark, fresh-down, own-mark-up, other-marks-stay}
 
 -- none of the first k positions along the road has the number a
 abbrev absent : List ℕ → ℕ → ℕ → Bool
 absent table k a = every k (λ j. not (eqb (rampAt table j) a))
 
 -- a mark is up exactly where its number stands at one of the first k positions
-pub record Marked (table : List ℕ) (k : ℕ) (marks : List Bool) : Type 0 where
-  pub each : (a : ℕ) → getD marks a false ≡ not (every k (λ j. not (eqb (rampAt table j) a)))
+pub record Marked (table : List ℕ) (k : ℕ) (marks : List ℕ) : Type 0 where
+  pub len : length marks ≡ 1_024
+  pub each : (a : ℕ) → 0 < a → up marks a ≡ not (every k (λ j. not (eqb (rampAt table j) a)))
 
-pub marks-down : (table : List ℕ) (marks : List Bool) → ((a : ℕ) → getD marks a false ≡ false) → Marked table 0 marks
-marks-down table marks down = record { each = down }
+pub marks-down : (table : List ℕ) → Marked table 0 (replicate 1_024 0)
+marks-down table = record { len = length-replicate {A = ℕ} 1_024 0; each = λ a _. fresh-down 1_024 a }
 
--- fresh marks: all down, and one for each ramp number below their length
-pub all-down : (n a : ℕ) → getD (replicate n false) a false ≡ false
-all-down zero a = refl
-all-down (suc n) zero = refl
-all-down (suc n) (suc a) = all-down n a
-
-pub all-have-marks : (table : List ℕ) (n : ℕ) → ((k : ℕ) → k < 2 * cells table → rampAt table k < n) → (k : ℕ) → k < 2 * cells table → rampAt table k < length (replicate n false)
-all-have-marks table n below k h = rw (length-replicate n false) (below k h)
-
-and-false : (b : Bool) → (b && false) ≡ false
-and-false true = refl
-and-false false = refl
-
-and-true : (b : Bool) → (b && true) ≡ b
-and-true true = refl
-and-true false = refl
-
-pub mark-up : (table : List ℕ) (k : ℕ) (marks : List Bool) (ramp : ℕ) → Marked table k marks → ramp ≡ rampAt table k → ramp < length marks → Marked table (k + 1) (set marks ramp true)
-mark-up table k marks ramp marked e h = record { each = λ a. rw (add-one k) (rw (← e) (by a (ℕ-discrete a ramp))) }
+-- the next position's number, as the code puts its mark up
+pub mark-up : {table marks marks′ : List ℕ} {k ramp : ℕ} → Marked table k marks → ramp ≡ rampAt table k → ramp < 65_536 → marks′ ≡ pick (eqb ramp 0) marks (withMark marks ramp) → Marked table (k + 1) marks′
+mark-up {table} {marks} {marks′} {k} {ramp} marked e h stored = by (ℕ-discrete ramp 0)
   where
-    by : (a : ℕ) → Dec (a ≡ ramp) → getD (set marks ramp true) a false ≡ not (absent table k a && not (eqb ramp a))
-    by a (yes same) =
-        rw (same, getD-set-same marks ramp true false h, eq-eqb ramp ramp refl) (sym (ap not (and-false (absent table k ramp))))
-    by a (no other) =
-        rw (getD-set-other marks ramp a true false other, marked .each a, ne-eqb ramp a (λ at. other (sym at)))
+    inside : ramp / 64 < length marks
+    inside = omega (arith, marked .len)
+
+    -- one more position: the number that stands there has its mark up, and no other's changes
+    put : (a : ℕ) → 0 < a → Dec (a ≡ ramp) → up (withMark marks ramp) a ≡ not (absent table k a && not (eqb ramp a))
+    put a some (yes same) = rw (same, own-mark-up marks ramp inside, eq-eqb ramp ramp refl) (sym (ap not (and-false (absent table k ramp))))
+    put a some (no other) =
+        rw (other-marks-stay marks ramp inside a other, marked .each a some, ne-eqb ramp a (λ at. other (sym at)))
         (sym (ap not (and-true (absent table k a))))
 
--- the loop's test at position k is true exactly where number 4's fails
-pub marks-tell : (table : List ℕ) (k : ℕ) (marks : List Bool) (ramp : ℕ) → Marked table k marks → ramp ≡ rampAt table k → not (rampIsNew table k) ≡ (not (eqb ramp 0) && getD marks ramp false)
-marks-tell table k marks ramp marked e = rw (← e, marked .each ramp) (de-morgan (eqb ramp 0) (absent table k ramp))
+    by : Dec (ramp ≡ 0) → Marked table (k + 1) marks′
+    by (yes none) =
+        rw (stored, eq-eqb ramp 0 none)
+        (record {
+          len = marked .len;
+          each =
+              λ a some. rw (add-one k) (rw (← e, marked .each a some, ne-eqb ramp a (omega arith)) (sym (ap not (and-true (absent table k a)))));
+        })
+    by (no some) =
+        rw (stored, ne-eqb ramp 0 some)
+        (record {
+          len = length-set marks _ _ ∙ marked .len;
+          each = λ a some. rw (add-one k) (rw (← e) (put a some (ℕ-discrete a ramp)));
+        })
+
+-- the code's test at position k is true exactly where number 4's fails
+pub marks-tell : {table marks : List ℕ} {k ramp : ℕ} {r : Bool} → Marked table k marks → ramp ≡ rampAt table k → r ≡ (not (eqb ramp 0) && up marks ramp) → not (rampIsNew table k) ≡ r
+marks-tell {table} {marks} {k} {ramp} marked e r = rw (r, ← e) (by (ℕ-discrete ramp 0))
   where
-    de-morgan : (a b : Bool) → not (a || b) ≡ (not a && not b)
-    de-morgan true b = refl
-    de-morgan false b = refl
+    by : Dec (ramp ≡ 0) → not (eqb ramp 0 || absent table k ramp) ≡ (not (eqb ramp 0) && up marks ramp)
+    by (yes none) = rw (eq-eqb ramp 0 none)
+    by (no some) = rw (ne-eqb ramp 0 some, marked .each ramp (omega (arith, some)))
 
--- both ramp numbers of a row are below a limit
-abbrev pub rampsBelow : ℕ → Row → Bool
-rampsBelow limit row = ltb (row .on) limit && ltb (row .off) limit
+-- the two positions of a cell
+module _ (table : List ℕ) (i : ℕ) {row : Row} (e : row ≡ rowAt table i) where
+  pub on-ramp-at : row .on ≡ rampAt table (2 * i)
+  on-ramp-at = rw (e, eq-eqb (2 * i % 2) 0 (omega arith)) (ap (λ j. rowAt table j .on) (omega arith))
 
-pub ramps-below : (table : List ℕ) (limit : ℕ) → Passes (cells table) (λ i. rampsBelow limit (rowAt table i)) → (k : ℕ) → k < 2 * cells table → rampAt table k < limit
-ramps-below table limit rows k h = by (eqb (k % 2) 0)
-  where
-    both : (rowAt table (k / 2) .on < limit) × (rowAt table (k / 2) .off < limit)
-    both =
-        let tests = both-hold _ _ (rows (k / 2) (omega arith)) in
-        (ltb-true _ _ (tests .0), ltb-true _ _ (tests .1))
-
-    by : (even : Bool) → pick even (rowAt table (k / 2) .on) (rowAt table (k / 2) .off) < limit
-    by true = both .0
-    by false = both .1
+  pub off-ramp-at : row .off ≡ rampAt table (2 * i + 1)
+  off-ramp-at = rw (e, ne-eqb ((2 * i + 1) % 2) 0 (omega arith)) (ap (λ j. rowAt table j .off) (omega arith))
 
 -- in a table whose rows are in range, each ramp number has its mark
 pub ramps-have-marks : (table : List ℕ) → Passes (cells table) (λ i. rowInRange (rowAt table i)) → (k : ℕ) → k < 2 * cells table → rampAt table k < 65_536
-ramps-have-marks table rows = ramps-below table 65_536 (λ i h. below (in-range (rowAt table i) (rows i h)))
+ramps-have-marks table rows k h = by (eqb (k % 2) 0)
   where
-    below : {row : Row} → InRange row → rampsBelow 65_536 row ≡ true
-    below {row} ranges =
-        ap₂ (λ on off. on && off) (lt-ltb (row .on) _ (omega (arith, ranges .on .most))) (lt-ltb (row .off) _ (omega (arith, ranges .off .most)))
+    ranges : InRange (rowAt table (k / 2))
+    ranges = in-range (rowAt table (k / 2)) (rows (k / 2) (omega arith))
+
+    by : (even : Bool) → pick even (rowAt table (k / 2) .on) (rowAt table (k / 2) .off) < 65_536
+    by true = omega (arith, ranges .on .most)
+    by false = omega (arith, ranges .off .most)

@@ -1,5 +1,5 @@
 -- What the tests of number 2 to 7 say when they pass. Assumes nothing.
-use Prim.Native.Nat.{ℕ, _≤_, zero-le}
+use Prim.Native.Nat.{ℕ, _%_, _≤_, zero-le}
 use mathlib.Core.Path.{_≡_, refl}
 use mathlib.Core.Bool.{Bool, true, false, _&&_, false≢true}
 use mathlib.Core.List.{List}
@@ -16,6 +16,9 @@ use Rattle.corridor.specs.Acceptance.{tableLengthFits, stateLengthsFit, 
 pub both-hold : (a b : Bool) → (a && b) ≡ true → (a ≡ true) × (b ≡ true)
 both-hold true b e = (refl, e)
 both-hold false b e = absurd (false≢true e)
+
+pub both-same : {a b c d : Bool} → a ≡ c → b ≡ d → (a && b) ≡ (c && d)
+both-same p q = λ i. (p i && q i)
 
 pub record Between (low high x : ℕ) : Type 0 where
   pub least : low ≤ x
@@ -58,6 +61,10 @@ in-range r e =
       off = between _ _ _ (off .1);
       b = between _ _ _ (b .1);
     }
+
+-- the cells of a table whose length fits
+pub cells-fit : (table : List ℕ) → tableLengthFits table ≡ true → Between 1 512 (cells table)
+cells-fit table fit = between _ _ _ (both-hold (eqb (length table % 9) 0) _ fit .1)
 
 -- the lengths under a table whose row of lists fits
 pub state-length : (table state : List ℕ) → stateLengthsFit table state ≡ true → length state ≡ stateLength (cells table)

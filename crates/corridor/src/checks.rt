@@ -1,10 +1,13 @@
-// The checks of document 01's numbers 2 to 7, one pass each. A check answers the least place that fails its test,
+// The checks of document 01's numbers 2 to 7, one pass each; 6 and 7 in one where both pass. A check answers the least place that fails its test,
 // counted from 0, or how many places there are where none fails.
 ghost use mathlib.Core.Path.{_≡_};
-ghost use Prim.Native.Nat.{ℕ, _+_, _*_, _<_, _≤_};
-ghost use mathlib.Core.Bool.{true, false};
-ghost use lib.ListN.{length, getD};
-ghost use Rattle.corridor.specs.Layout.{cells, rowAt, rampAt, stateLength, demandLength};
+ghost use Prim.Native.Nat.{ℕ, _+_, _*_, _/_, _%_, _^_, _<_};
+ghost use mathlib.Core.Bool.{not, _&&_};
+ghost use lib.Dec.{eqb};
+ghost use lib.Bits.{bitOr};
+ghost use lib.ListN.{length, getD, set};
+ghost use Rattle.whole.specs.Search.{pick, every};
+ghost use Rattle.corridor.specs.Layout.{cells, rampAt, stateLength, demandLength};
 ghost use Rattle.corridor.specs.Checks.{least};
 ghost use Rattle.corridor.specs.Acceptance.{withRamp, givenOff, rowInRange, roomShared, rowsInRange, roomsShared, rampsOnce, stateFits, stateInRange, demandFits, demandInRange, queueHolds, queuesHold};
 use crate::Row;
@@ -70,60 +73,39 @@ pub(crate) fn rooms_shared(table: &[u32]) -> usize
     n
 }
 
-// Number 4, from marks that are all down: a mark that is up says that its ramp number stands at a position already passed.
-fn ramps_once_by(table: &[u32], marks: &mut [bool]) -> usize
-    requires { ⌜ ((a : ℕ) → getD (now marks) a false ≡ false) ⌝ }
-    requires { ⌜ ((k : ℕ) → k < 2 * cells (now table) → rampAt (now table) k < length (now marks)) ⌝ }
-    ensures { λ r. ⌜ r ≡ least (rampsOnce (now (table .entry))) ⌝ }
+// Puts a ramp number's mark up, and answers whether it was up already: bit by bit, in words of 64. Number 0 is no ramp and has no mark.
+fn ramp_again(marks: &mut [u64; 1_024], ramp: usize) -> bool
+    requires { ⌜ ramp < 65_536 ⌝ }
+    ensures { λ r. ⌜ r ≡ (not (eqb ramp 0) && eqb (getD (now (marks .entry)) (ramp / 64) 0 / 2 ^ (ramp % 64) % 2) 1) ⌝ }
+    ensures { λ _. ⌜ now (marks .exit) ≡ pick (eqb ramp 0) (now (marks .entry)) (set (now (marks .entry)) (ramp / 64) (bitOr (getD (now (marks .entry)) (ramp / 64) 0) (2 ^ (ramp % 64)))) ⌝ }
 {
-    let n = 2 * cells(table);
-    let mut k = 0;
-    while k < n {
-        let ramp = ramp_at(table, k) as usize;
-        if (ramp != 0) & marks[ramp] {
-            return k;
-        }
-        marks[ramp] = true;
-        k += 1;
+    if ramp == 0 {
+        return false;
     }
-    n
+    let word = marks[ramp / 64];
+    marks[ramp / 64] = word | (1 << (ramp % 64));
+    (word >> (ramp % 64)) % 2 == 1
 }
 
-// Whether every ramp number is below a limit. It stops at the first that is not.
-fn ramps_below(table: &[u32], limit: u32) -> bool
-    ensures { λ r. ⌜ (r ≡ true → (k : ℕ) → k < 2 * cells (now (table .entry)) → rampAt (now (table .entry)) k < limit) ⌝ }
-{
-    let n = cells(table);
-    let mut i = 0;
-    while i < n {
-        let row = row_at(table, i);
-        if !((row.on < limit) & (row.off < limit)) {
-            return false;
-        }
-        i += 1;
-    }
-    true
-}
-
-// Number 4 where every ramp number is below 4,096, as on most roads: fewer marks are cleared.
-fn low_ramps_once(table: &[u32]) -> usize
-    requires { ⌜ ((k : ℕ) → k < 2 * cells (now table) → rampAt (now table) k < 4_096) ⌝ }
-    ensures { λ r. ⌜ r ≡ least (rampsOnce (now (table .entry))) ⌝ }
-{
-    let mut marks = [false; 4_096];
-    ramps_once_by(table, &mut marks)
-}
-
-// Number 4.
+// Number 4: a mark that is up says that its ramp number stands at a position already passed.
 pub(crate) fn ramps_once(table: &[u32]) -> usize
     requires { ⌜ ((k : ℕ) → k < 2 * cells (now table) → rampAt (now table) k < 65_536) ⌝ }
     ensures { λ r. ⌜ r ≡ least (rampsOnce (now (table .entry))) ⌝ }
 {
-    if ramps_below(table, 4_096) {
-        return low_ramps_once(table);
+    let mut marks = [0; 1_024];
+    let n = cells(table);
+    let mut i = 0;
+    while i < n {
+        let row = row_at(table, i);
+        if ramp_again(&mut marks, row.on as usize) {
+            return 2 * i;
+        }
+        if ramp_again(&mut marks, row.off as usize) {
+            return 2 * i + 1;
+        }
+        i += 1;
     }
-    let mut marks = [false; 65_536];
-    ramps_once_by(table, &mut marks)
+    2 * n
 }
 
 // Whether a cell's count and on-ramp queue are in their ranges.
@@ -253,4 +235,23 @@ pub(crate) fn queues_hold(table: &[u32], state: &[u32], demand: &[u32]) -> usize
         i += 1;
     }
     n
+}
+
+// Whether 6 and 7 pass at every place: one walk over a row that nothing refuses.
+pub(crate) fn row_passes(table: &[u32], state: &[u32], demand: &[u32]) -> bool
+    requires { ⌜ length (now state) ≡ stateLength (cells (now table)) ⌝ }
+    requires { ⌜ length (now demand) ≡ demandLength (cells (now table)) ⌝ }
+    ensures { λ r. ⌜ r ≡ every (cells (now (table .entry)) + 1) (λ p. demandInRange (now (table .entry)) (now (demand .entry)) .test p && queuesHold (now (table .entry)) (now (state .entry)) (now (demand .entry)) .test p) ⌝ }
+{
+    let n = cells(table) + 1;
+    let mut i = 0;
+    while i < n {
+        let fits = demand_fits_at(table, demand, i);
+        let holds = queue_holds_at(table, state, demand, i);
+        if !(fits & holds) {
+            return false;
+        }
+        i += 1;
+    }
+    true
 }

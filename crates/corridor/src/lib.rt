@@ -1,10 +1,15 @@
 // The corridor's lists: the row as a struct, where each number stands in a table, a state and a demand row, and what
 // is refused of them, by document 01's numbers 1 to 7.
 ghost use mathlib.Core.Path.{_≡_};
+ghost use mathlib.Core.List.{[], _∷_};
+ghost use Prim.Native.Nat.{_≤_};
+ghost use lib.Dec.{eqb};
 ghost use lib.ListN.{length};
+ghost use Rattle.whole.specs.Search.{pick};
+ghost use Rattle.corridor.specs.declared.Answer.the-variants.{Accepted};
 ghost use Rattle.corridor.specs.Layout.{cells, stateLength, demandLength};
 ghost use Rattle.corridor.specs.Checks.{answer};
-ghost use Rattle.corridor.specs.Acceptance.{tableLengthFits, stateLengthsFit, rowLengthsFit, tableNumbers, stateNumbers, demandNumbers, tableChecks, stateChecks, rowChecks, demandChecks, stateAloneChecks, bothTables, bothTablesChecks};
+ghost use Rattle.corridor.specs.Acceptance.{tableLengthFits, stateLengthsFit, rowLengthsFit, rowsInRange, roomsShared, rampsOnce, tableNumbers, stateNumbers, demandNumbers, tableChecks, stateChecks, rowChecks, demandChecks, stateAloneChecks, bothTables, bothTablesChecks};
 ghost use Rattle.corridor.specs.Refusals.{numberOf, placeOf};
 
 mod checks;
@@ -108,24 +113,46 @@ fn row_lengths_fit(table: &[u32], state: &[u32], demand: &[u32]) -> bool
     state_lengths_fit(table, state) & (demand.len() == 2 * cells(table) + 1)
 }
 
-// Numbers 2 to 4.
-fn table_numbers(table: &[u32]) -> Answer
-    ensures { λ r. ⌜ r ≡ answer (tableNumbers (now (table .entry))) ⌝ }
+// Number 2, 3 or 4 of a table. Number 4 is for rows in their ranges.
+fn one_number(table: &[u32], number: u32) -> Answer
+    requires { ⌜ (number ≡ 4 → Accepted ≡ answer (rowsInRange (now table) ∷ [])) × (2 ≤ number) × (number ≤ 4) ⌝ }
+    ensures { λ r. ⌜ r ≡ answer (pick (eqb number 2) (rowsInRange (now (table .entry))) (pick (eqb number 3) (roomsShared (now (table .entry))) (rampsOnce (now (table .entry)))) ∷ []) ⌝ }
 {
     let n = cells(table);
-    let row = checks::rows_in_range(table);
-    if row < n {
-        return Answer::Refused(Refusal::TableNumber(row + 1));
+    if number == 2 {
+        let row = checks::rows_in_range(table);
+        if row < n {
+            return Answer::Refused(Refusal::TableNumber(row + 1));
+        }
+        return Answer::Accepted;
     }
-    let room = checks::rooms_shared(table);
-    if room < n {
-        return Answer::Refused(Refusal::RoomShares(room + 1));
+    if number == 3 {
+        let room = checks::rooms_shared(table);
+        if room < n {
+            return Answer::Refused(Refusal::RoomShares(room + 1));
+        }
+        return Answer::Accepted;
     }
     let ramp = checks::ramps_once(table);
     if ramp < 2 * n {
         return Answer::Refused(Refusal::RampAgain(ramp / 2 + 1));
     }
     Answer::Accepted
+}
+
+// Numbers 2 to 4.
+fn table_numbers(table: &[u32]) -> Answer
+    ensures { λ r. ⌜ r ≡ answer (tableNumbers (now (table .entry))) ⌝ }
+{
+    let rows = one_number(table, 2);
+    if let Answer::Refused(refusal) = rows {
+        return Answer::Refused(refusal);
+    }
+    let rooms = one_number(table, 3);
+    if let Answer::Refused(refusal) = rooms {
+        return Answer::Refused(refusal);
+    }
+    one_number(table, 4)
 }
 
 // Numbers 2 to 5.
@@ -150,6 +177,9 @@ fn demand_numbers(table: &[u32], state: &[u32], demand: &[u32]) -> Answer
     requires { ⌜ length (now demand) ≡ demandLength (cells (now table)) ⌝ }
     ensures { λ r. ⌜ r ≡ answer (demandNumbers (now (table .entry)) (now (state .entry)) (now (demand .entry))) ⌝ }
 {
+    if checks::row_passes(table, state, demand) {
+        return Answer::Accepted;
+    }
     let n = cells(table);
     let at = checks::demand_in_range(table, demand);
     if at <= n {
@@ -224,33 +254,27 @@ pub fn accept_state_alone(table: &[u32], state: &[u32]) -> Answer
 fn both_tables(first: &[u32], second: &[u32]) -> Answer
     ensures { λ r. ⌜ r ≡ answer (bothTables (now (first .entry)) (now (second .entry))) ⌝ }
 {
-    let n = cells(first);
-    let m = cells(second);
-    let row = checks::rows_in_range(first);
-    if row < n {
-        return Answer::Refused(Refusal::TableNumber(row + 1));
+    let rows = one_number(first, 2);
+    if let Answer::Refused(refusal) = rows {
+        return Answer::Refused(refusal);
     }
-    let row_too = checks::rows_in_range(second);
-    if row_too < m {
-        return Answer::Refused(Refusal::TableNumber(row_too + 1));
+    let rows_too = one_number(second, 2);
+    if let Answer::Refused(refusal) = rows_too {
+        return Answer::Refused(refusal);
     }
-    let room = checks::rooms_shared(first);
-    if room < n {
-        return Answer::Refused(Refusal::RoomShares(room + 1));
+    let rooms = one_number(first, 3);
+    if let Answer::Refused(refusal) = rooms {
+        return Answer::Refused(refusal);
     }
-    let room_too = checks::rooms_shared(second);
-    if room_too < m {
-        return Answer::Refused(Refusal::RoomShares(room_too + 1));
+    let rooms_too = one_number(second, 3);
+    if let Answer::Refused(refusal) = rooms_too {
+        return Answer::Refused(refusal);
     }
-    let ramp = checks::ramps_once(first);
-    if ramp < 2 * n {
-        return Answer::Refused(Refusal::RampAgain(ramp / 2 + 1));
+    let ramps = one_number(first, 4);
+    if let Answer::Refused(refusal) = ramps {
+        return Answer::Refused(refusal);
     }
-    let ramp_too = checks::ramps_once(second);
-    if ramp_too < 2 * m {
-        return Answer::Refused(Refusal::RampAgain(ramp_too / 2 + 1));
-    }
-    Answer::Accepted
+    one_number(second, 4)
 }
 
 // Whether two tables are accepted: numbers 1 to 4, each number of the first before the second's.

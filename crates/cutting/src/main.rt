@@ -1,7 +1,5 @@
 // Cuts a cell with an on-ramp and an off-ramp into three under a running corridor, and shows that nothing is lost: the shares sum to the
 // old count, the queue stands on the first piece and the off-ramp on the last, and the periods go on.
-ghost use Prim.Native.Nat.{_≤_};
-ghost use lib.ListN.{length};
 use corridor::Answer;
 use corridor::layout::cells;
 use corridor::layout::ramp_at;

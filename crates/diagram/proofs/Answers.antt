@@ -1,8 +1,9 @@
 -- How an answer goes from check to check, and what the answers of the fit and the row tell. Assumes nothing.
-use Prim.Native.Nat.{ℕ, _≤_, _<_}
+use Prim.Native.Nat.{ℕ, _+_, _≤_, _<_}
 use mathlib.Core.Path.{_≡_, refl, sym, ap, ap₂, _∙_}
 use mathlib.Core.Bool.{Bool, true, false}
 use mathlib.Core.List.{List, [], _∷_}
+use native.Mathlib.Numerals.{add-one}
 use borrow.Author.Tests.{leb-true, eqb-true}
 use lib.Dec.{lit<}
 use lib.Ieee.{Float}
@@ -16,6 +17,7 @@ use Rattle.corridor.specs.Acceptance.{lengths}
 use Rattle.corridor.proofs.Ranges.{both-hold}
 use Rattle.corridor.proofs.Answers.{refused-stays, accepted-goes-on}
 use Rattle.diagram.specs.declared.Settings.{Settings}
+use Rattle.diagram.specs.declared.Sample.{Sample}
 use Rattle.diagram.specs.declared.Diagram.{Diagram}
 use Rattle.diagram.specs.declared.RowValues.{RowValues}
 use Rattle.diagram.specs.declared.RowNumbers.{RowNumbers}
@@ -24,8 +26,9 @@ use Rattle.diagram.specs.declared.FitAnswer.the-variants.{Fitted, NotFit
 use Rattle.diagram.specs.declared.RowAnswer.{RowAnswer}
 use Rattle.diagram.specs.declared.RowAnswer.the-variants.{Made, NotMade}
 use Rattle.diagram.specs.declared.Calibration.the-variants.{Calibrated, NotCalibrated}
+use Rattle.diagram.specs.Samples.{sampleAt, usable}
 use Rattle.diagram.specs.RowNumbers.{rowValues, rowNumbers, valueFits}
-use Rattle.diagram.specs.Calibration.{lengthsFit, valuesFit, fitChecks, fittedDiagram, fittedValues, fitAs, rowAs, calibratedAs, fitOf, calibrationOf}
+use Rattle.diagram.specs.Calibration.{lengthsFit, samplesUsable, valuesFit, fitChecks, fittedDiagram, fittedValues, fitAs, rowAs, calibratedAs, fitOf, calibrationOf}
 
 -- a check of one place
 pub test-fails : (refusal : ℕ → Refusal) (later : Answer) {fit : Bool} → fit ≡ false → Refused (refusal 0) ≡ orLater (record { places = 1; test = λ _. fit; refusal = refusal }) later
@@ -53,6 +56,10 @@ lengths-fit settings flow occupancy e =
     let within = both-hold _ _ (order .0) in
     let few = both-hold _ _ (within .0) in
     record { equal = eqb-true _ _ (few .0); few = leb-true _ _ (few .1); within = leb-true _ _ (within .1) }
+
+-- the test of number 9 at the place of a sample, which was read and found usable or not
+pub tested : (settings : Settings) (flow occupancy : List Float) (i : ℕ) {sample : Sample} {r : Bool} → sample ≡ sampleAt settings flow occupancy i → r ≡ usable sample → r ≡ samplesUsable settings flow occupancy .test (i + 1)
+tested settings flow occupancy i read e = rw add-one (e ∙ ap usable read)
 
 -- the four values fit where the check of number 11 finds nothing
 pub values-fit : (values : RowValues) {at : ℕ} → at ≡ least (valuesFit values) → 4 ≤ at → (valueFits 65_536 (values .v) ≡ true) × ((valueFits 65_536 (values .w) ≡ true) × ((valueFits 1_000_000 (values .capacity) ≡ true) × (valueFits 4_000_000 (values .jam) ≡ true)))

@@ -1,6 +1,6 @@
 -- What the public answers tell: a fitted diagram holds no NaN, and neither do its row values; a row that was made is in the
 -- ranges that number 2 asks of v, w, F and J. Assumes nothing.
-use Prim.Native.Nat.{ℕ, zero, _-_, _*_, _^_, _≤_, _<_}
+use Prim.Native.Nat.{ℕ, _-_, _*_, _^_, _≤_, _<_}
 use mathlib.Core.Path.{_≡_, refl, sym, _∙_, subst}
 use mathlib.Core.Bool.{Bool, true, false, _&&_, true≢false, false≢true}
 use mathlib.Core.List.{List}

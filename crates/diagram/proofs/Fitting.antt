@@ -1,13 +1,19 @@
 -- Number 10 and the diagram, from the sums that the code found. A free stretch that is empty, or no sample above critical,
 -- leaves a sum of squares at zero. Assumes nothing.
-use mathlib.Core.Path.{_≡_, refl, sym}
+use mathlib.Core.Path.{_≡_, refl, sym, ap, _∙_}
 use mathlib.Core.Bool.{Bool, true, false, not, _&&_, _||_, false≢true}
 use mathlib.Core.List.{List, [], _∷_}
 use lib.Ieee.{Float, ofInt, eq}
+use Rattle.corridor.specs.declared.Refusal.the-variants.{Fit}
+use Rattle.corridor.specs.declared.Answer.the-variants.{Accepted}
+use Rattle.corridor.specs.Checks.{answer}
+use Rattle.diagram.specs.declared.FitAnswer.the-variants.{Fitted, NotFitted}
 use Rattle.diagram.specs.declared.Sample.{Sample}
 use Rattle.diagram.specs.declared.Sums.{Sums}
 use Rattle.diagram.specs.declared.Diagram.{Diagram}
 use Rattle.diagram.specs.Doubles.{_⊕_, _⊘_, isZero}
+use Rattle.diagram.specs.Calibration.{fitAs}
+use Rattle.diagram.proofs.Answers.{test-fails, test-passes}
 use Rattle.diagram.specs.Diagrams.{sum, ratio, densitySquared, speedSums, largestFlow, above, excessSquared, waveSums, diagramOf, isEmpty, fits}
 
 -- nothing sums to zero
@@ -28,14 +34,23 @@ four-of-six false false false false false true h k = absurd (false≢true (k ref
 four-of-six false false false false false false h k = refl
 
 module _ (free all : List Sample) (speeds waves : Sums) (capacity : Float) (s : speeds ≡ speedSums free) (k : capacity ≡ largestFlow all) (w : waves ≡ waveSums capacity (capacity ⊘ ratio speeds) all) where
-  pub diagram-is : _≡_ {A = Diagram} (record { speed = ratio speeds; capacity = capacity; critical = capacity ⊘ ratio speeds; wave = ratio waves; jam = (capacity ⊘ ratio speeds) ⊕ capacity ⊘ ratio waves }) (diagramOf free all)
+  diagram-is : _≡_ {A = Diagram} (record { speed = ratio speeds; capacity = capacity; critical = capacity ⊘ ratio speeds; wave = ratio waves; jam = (capacity ⊘ ratio speeds) ⊕ capacity ⊘ ratio waves }) (diagramOf free all)
   unfolding diagramOf
   diagram-is = rw (w, s, k)
 
-  pub fits-unless : not (isZero (speeds .bottom) || isZero (ratio speeds) || isZero (waves .bottom) || isZero (ratio waves)) ≡ fits free all
+  fits-unless : not (isZero (speeds .bottom) || isZero (ratio speeds) || isZero (waves .bottom) || isZero (ratio waves)) ≡ fits free all
   unfolding fits diagramOf
   fits-unless =
       let critical = largestFlow all ⊘ ratio (speedSums free) in
       rw (w, s, k)
       (sym
       (four-of-six (isEmpty free) _ _ _ _ (isEmpty (above critical all)) (empty-sum densitySquared free) (empty-sum (excessSquared critical) (above critical all))))
+
+  -- the code's test went one way or the other
+  pub no-diagram : (isZero (speeds .bottom) || isZero (ratio speeds) || isZero (waves .bottom) || isZero (ratio waves)) ≡ true → NotFitted Fit ≡ fitAs (answer (record { places = 1; test = λ _. fits free all; refusal = λ _. Fit } ∷ [])) (diagramOf free all)
+  no-diagram zero = ap (λ a. fitAs a (diagramOf free all)) (test-fails (λ _. Fit) Accepted (sym fits-unless ∙ ap not zero))
+
+  pub the-diagram : (isZero (speeds .bottom) || isZero (ratio speeds) || isZero (waves .bottom) || isZero (ratio waves)) ≡ false → Fitted (record { speed = ratio speeds; capacity = capacity; critical = capacity ⊘ ratio speeds; wave = ratio waves; jam = (capacity ⊘ ratio speeds) ⊕ capacity ⊘ ratio waves }) ≡ fitAs (answer (record { places = 1; test = λ _. fits free all; refusal = λ _. Fit } ∷ [])) (diagramOf free all)
+  the-diagram none =
+      ap Fitted diagram-is
+      ∙ ap (λ a. fitAs a (diagramOf free all)) (test-passes (λ _. Fit) Accepted (sym fits-unless ∙ ap not none))

@@ -1,21 +1,21 @@
 // The checks of document 01's numbers 1, 9 and 11 on samples, settings and row values. A check answers the least place
 // that fails its test, counted from 0, or how many places there are where none fails.
 ghost use mathlib.Core.Path.{_≡_};
-ghost use Prim.Native.Nat.{_+_, _<_};
+ghost use Prim.Native.Nat.{_<_};
 ghost use lib.ListN.{length};
-ghost use Rattle.corridor.specs.Checks.{least, answer};
-ghost use Rattle.diagram.specs.Samples.{usable};
-ghost use Rattle.diagram.specs.Calibration.{lengthsFit, cellSettingsFit, settingsFit, samplesUsable, sampleChecks, valuesFit};
+ghost use Rattle.corridor.specs.Checks.{least};
+ghost use Rattle.diagram.specs.Samples.{usable, samples};
+ghost use Rattle.diagram.specs.Diagrams.{largestFlow};
+ghost use Rattle.diagram.specs.Calibration.{lengthsFit, cellSettingsFit, settingsFit, samplesUsable, valuesFit};
 use crate::RowValues;
 use crate::Sample;
 use crate::Settings;
 use crate::doubles::between;
-use crate::read_sample;
-use corridor::Answer;
-use corridor::Refusal;
+use crate::sample_at;
+use crate::totals::larger_flow;
 
 // Number 1.
-fn lengths_fit(flow: &[f64], occupancy: &[f64], settings: Settings) -> bool
+pub(crate) fn lengths_fit(flow: &[f64], occupancy: &[f64], settings: Settings) -> bool
     ensures { λ r. ⌜ r ≡ lengthsFit settings (now (flow .entry)) (now (occupancy .entry)) ⌝ }
 {
     (flow.len() == occupancy.len())
@@ -49,48 +49,38 @@ fn usable(sample: Sample) -> bool
     }
 }
 
-// The test of number 9 at a position: 0 for the settings, then the samples from 1.
-fn usable_at(flow: &[f64], occupancy: &[f64], settings: Settings, position: usize) -> bool
-    requires { ⌜ length (now flow) ≡ length (now occupancy) ⌝ }
-    requires { ⌜ position < length (now flow) + 1 ⌝ }
-    ensures { λ r. ⌜ r ≡ samplesUsable settings (now (flow .entry)) (now (occupancy .entry)) .test position ⌝ }
-{
-    if position == 0 {
-        return settings_fit(settings);
-    }
-    let i = position - 1;
-    usable(read_sample(settings.g, settings.lanes, flow[i], occupancy[i]))
+// What a pass over the samples finds: the place of number 9, past the last where it does not apply, and then capacity.
+pub(crate) struct Seen {
+    pub(crate) at: usize,
+    pub(crate) capacity: f64,
 }
 
-// Number 9.
-fn samples_usable(flow: &[f64], occupancy: &[f64], settings: Settings) -> usize
+// Number 9 and, where it does not apply, capacity: one pass over the samples serves both. A bad setting is at place 0, a
+// bad sample at its own, counted from 1.
+pub(crate) fn samples_usable(flow: &[f64], occupancy: &[f64], settings: Settings) -> Seen
     requires { ⌜ length (now flow) ≡ length (now occupancy) ⌝ }
     requires { ⌜ length (now flow) < 65_537 ⌝ }
-    ensures { λ r. ⌜ r ≡ least (samplesUsable settings (now (flow .entry)) (now (occupancy .entry))) ⌝ }
+    ensures { λ r. ⌜ r .at ≡ least (samplesUsable settings (now (flow .entry)) (now (occupancy .entry))) ⌝ }
+    ensures { λ r. ⌜ (length (now (flow .entry)) < r .at → r .capacity ≡ largestFlow (samples settings (now (flow .entry)) (now (occupancy .entry)))) ⌝ }
 {
-    let n = flow.len() + 1;
+    let n = flow.len();
+    let mut capacity = 0.0;
+    if !settings_fit(settings) {
+        return Seen { at: 0, capacity };
+    }
     let mut i = 0;
     while i < n {
-        if !usable_at(flow, occupancy, settings, i) {
-            return i;
-        }
+        let sample = sample_at(flow, occupancy, settings, i);
         i += 1;
+        if !usable(sample) {
+            return Seen { at: i, capacity };
+        }
+        capacity = larger_flow(capacity, sample);
     }
-    n
-}
-
-// Numbers 1 and 9.
-pub(crate) fn accept_samples(flow: &[f64], occupancy: &[f64], settings: Settings) -> Answer
-    ensures { λ r. ⌜ r ≡ answer (sampleChecks settings (now (flow .entry)) (now (occupancy .entry))) ⌝ }
-{
-    if !lengths_fit(flow, occupancy, settings) {
-        return Answer::Refused(Refusal::Length);
+    Seen {
+        at: n + 1,
+        capacity,
     }
-    let at = samples_usable(flow, occupancy, settings);
-    if at <= flow.len() {
-        return Answer::Refused(Refusal::Sample(at));
-    }
-    Answer::Accepted
 }
 
 // Number 11: whether the value of v, w, F or J is at least 1 and at most its limit, in this order.

@@ -1,5 +1,6 @@
-// Doubles as document 01 reads them: finite, in a range, and with minus zero counted as zero.
+// Doubles as document 01 reads them: finite, in a range, with minus zero counted as zero; and one of two picked by a test.
 ghost use mathlib.Core.Path.{_≡_};
+ghost use Rattle.whole.specs.Search.{pick};
 ghost use Rattle.diagram.specs.Doubles.{finite, between, unsigned};
 
 // Neither a NaN nor an infinity: strictly between the two infinities.
@@ -22,4 +23,11 @@ pub(crate) fn unsigned(x: f64) -> f64
     ensures { λ r. ⌜ r ≡ unsigned x ⌝ }
 {
     if x == 0.0 { 0.0 } else { x }
+}
+
+// x where the test holds, else y. Both are known, so that no branch is needed.
+pub(crate) fn pick(test: bool, x: f64, y: f64) -> f64
+    ensures { λ r. ⌜ r ≡ pick test x y ⌝ }
+{
+    if test { x } else { y }
 }

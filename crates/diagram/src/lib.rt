@@ -1,14 +1,15 @@
 // Calibration: detector samples of flow and occupancy become a triangular diagram, and the diagram the four numbers v, w,
 // F and J of a cell row. Every sum and quotient is rounded once, in document 01's order.
 ghost use mathlib.Core.Path.{_≡_};
-ghost use Prim.Native.Nat.{ℕ, _≤_};
+ghost use Prim.Native.Nat.{ℕ, _≤_, _<_};
 ghost use mathlib.Core.Bool.{false, _&&_};
 ghost use mathlib.Core.List.{[], _∷_};
 ghost use lib.Ieee.{Float};
 ghost use lib.ListN.{length};
 ghost use Rattle.corridor.specs.Checks.{answer};
 ghost use Rattle.diagram.specs.declared.Sample.the-variants.{Unusable};
-ghost use Rattle.diagram.specs.Samples.{flowInRange, occupancyInRange, sampleOf};
+ghost use Rattle.diagram.specs.Samples.{flowInRange, occupancyInRange, sampleOf, sampleAt, samples};
+ghost use Rattle.diagram.specs.Diagrams.{largestFlow};
 ghost use Rattle.diagram.specs.Calibration.{diagramFits, valuesFit, fittedDiagram, fitAs, rowAs, fitOf, rowOf, calibrationOf};
 
 mod checks;
@@ -16,7 +17,6 @@ mod doubles;
 mod row;
 mod totals;
 
-use corridor::Answer;
 use corridor::Refusal;
 
 // What a calibration is told beside its samples: the effective vehicle length g in miles, the lanes, the period T in whole
@@ -129,16 +129,25 @@ pub fn read_sample(g: f64, lanes: u32, flow: f64, occupancy: f64) -> Sample
     Sample::Good(doubles::unsigned(flow), density)
 }
 
+// Reads the sample at a position of the two lists.
+fn sample_at(flow: &[f64], occupancy: &[f64], settings: Settings, i: usize) -> Sample
+    requires { ⌜ i < length (now flow) ⌝ }
+    requires { ⌜ length (now flow) ≡ length (now occupancy) ⌝ }
+    ensures { λ r. ⌜ r ≡ sampleAt settings (now (flow .entry)) (now (occupancy .entry)) i ⌝ }
+{
+    read_sample(settings.g, settings.lanes, flow[i], occupancy[i])
+}
+
 // Number 10, and the diagram where it does not apply. A free stretch that is empty, and no sample above critical, leave
 // their sum of squares at zero, so no test of their own is made of these two.
-fn fit_samples(flow: &[f64], occupancy: &[f64], settings: Settings) -> FitAnswer
+fn fit_samples(flow: &[f64], occupancy: &[f64], settings: Settings, capacity: f64) -> FitAnswer
     requires { ⌜ length (now flow) ≡ length (now occupancy) ⌝ }
     requires { ⌜ settings .end ≤ length (now flow) ⌝ }
+    requires { ⌜ capacity ≡ largestFlow (samples settings (now flow) (now occupancy)) ⌝ }
     ensures { λ r. ⌜ r ≡ fitAs (answer (diagramFits settings (now (flow .entry)) (now (occupancy .entry)) ∷ [])) (fittedDiagram settings (now (flow .entry)) (now (occupancy .entry))) ⌝ }
 {
     let free = totals::speed_sums(flow, occupancy, settings);
     let speed = free.top / free.bottom;
-    let capacity = totals::largest_flow(flow, occupancy, settings);
     let critical = capacity / speed;
     let over = totals::wave_sums(flow, occupancy, settings, capacity, critical);
     let wave = over.top / over.bottom;
@@ -159,11 +168,14 @@ fn fit_samples(flow: &[f64], occupancy: &[f64], settings: Settings) -> FitAnswer
 pub fn fit(flow: &[f64], occupancy: &[f64], settings: Settings) -> FitAnswer
     ensures { λ r. ⌜ r ≡ fitOf settings (now (flow .entry)) (now (occupancy .entry)) ⌝ }
 {
-    let found = checks::accept_samples(flow, occupancy, settings);
-    if let Answer::Refused(refusal) = found {
-        return FitAnswer::NotFitted(refusal);
+    if !checks::lengths_fit(flow, occupancy, settings) {
+        return FitAnswer::NotFitted(Refusal::Length);
     }
-    fit_samples(flow, occupancy, settings)
+    let seen = checks::samples_usable(flow, occupancy, settings);
+    if seen.at <= flow.len() {
+        return FitAnswer::NotFitted(Refusal::Sample(seen.at));
+    }
+    fit_samples(flow, occupancy, settings, seen.capacity)
 }
 
 // Number 11, and the row numbers where it does not apply.

@@ -1,15 +1,16 @@
-// The sums and the largest flow of calibration: a step for each, and one pass over the samples in their order. Samples are
-// read anew in each pass, so that nothing is stored.
+// The sums and the largest flow of calibration: a step for each, and for each two sums one pass over the samples in their
+// order. Samples are read anew in each pass, so that nothing is stored.
 ghost use mathlib.Core.Path.{_≡_};
 ghost use Prim.Native.Nat.{_≤_};
 ghost use lib.Ieee.{lt};
 ghost use lib.ListN.{length};
 ghost use Rattle.diagram.specs.Samples.{samples};
-ghost use Rattle.diagram.specs.Diagrams.{adds, flowByDensity, densitySquared, speedSums, larger, largestFlow, isAbove, addsAbove, gapByExcess, excessSquared, waveSums, freeOf};
+ghost use Rattle.diagram.specs.Diagrams.{adds, flowByDensity, densitySquared, speedSums, larger, isAbove, addsAbove, gapByExcess, excessSquared, waveSums, freeOf};
 use crate::Sample;
 use crate::Settings;
 use crate::Sums;
-use crate::read_sample;
+use crate::doubles::pick;
+use crate::sample_at;
 
 fn plus_flow_by_density(total: f64, sample: Sample) -> f64
     ensures { λ r. ⌜ r ≡ adds flowByDensity total sample ⌝ }
@@ -40,7 +41,7 @@ pub(crate) fn speed_sums(flow: &[f64], occupancy: &[f64], settings: Settings) ->
     let mut bottom = 0.0;
     let mut i = settings.start;
     while i < end {
-        let sample = read_sample(settings.g, settings.lanes, flow[i], occupancy[i]);
+        let sample = sample_at(flow, occupancy, settings, i);
         top = plus_flow_by_density(top, sample);
         bottom = plus_density_squared(bottom, sample);
         i += 1;
@@ -48,28 +49,14 @@ pub(crate) fn speed_sums(flow: &[f64], occupancy: &[f64], settings: Settings) ->
     Sums { top, bottom }
 }
 
-fn larger_flow(most: f64, sample: Sample) -> f64
+// A step of capacity.
+pub(crate) fn larger_flow(most: f64, sample: Sample) -> f64
     ensures { λ r. ⌜ r ≡ larger most sample ⌝ }
 {
     match sample {
-        Sample::Good(flow, _) => { if most < flow { flow } else { most } }
+        Sample::Good(flow, _) => pick(most < flow, flow, most),
         Sample::Unusable(_) => most,
     }
-}
-
-// Capacity, over all samples.
-pub(crate) fn largest_flow(flow: &[f64], occupancy: &[f64], settings: Settings) -> f64
-    requires { ⌜ length (now flow) ≡ length (now occupancy) ⌝ }
-    ensures { λ r. ⌜ r ≡ largestFlow (samples settings (now (flow .entry)) (now (occupancy .entry))) ⌝ }
-{
-    let mut most = 0.0;
-    let mut i = 0;
-    while i < flow.len() {
-        let sample = read_sample(settings.g, settings.lanes, flow[i], occupancy[i]);
-        most = larger_flow(most, sample);
-        i += 1;
-    }
-    most
 }
 
 // What "above critical" means.
@@ -106,16 +93,17 @@ fn plus_excess_squared(total: f64, critical: f64, sample: Sample) -> f64
     }
 }
 
-// A step of both sums of wave: one test of "above critical" serves the two.
+// A step of both sums of wave: one test of "above critical" serves the two. Which samples are above is hard to foretell, so
+// that a sum is worked out for each sample and taken where it counts: a branch would cost more than the sum.
 fn plus_above(sums: Sums, capacity: f64, critical: f64, sample: Sample) -> Sums
     ensures { λ r. ⌜ (r .top ≡ addsAbove critical (gapByExcess capacity critical) (sums .top) sample) × (r .bottom ≡ addsAbove critical (excessSquared critical) (sums .bottom) sample) ⌝ }
 {
-    if !sample_above(critical, sample) {
-        return sums;
-    }
+    let above = sample_above(critical, sample);
+    let top = plus_gap_by_excess(sums.top, capacity, critical, sample);
+    let bottom = plus_excess_squared(sums.bottom, critical, sample);
     Sums {
-        top: plus_gap_by_excess(sums.top, capacity, critical, sample),
-        bottom: plus_excess_squared(sums.bottom, critical, sample),
+        top: pick(above, top, sums.top),
+        bottom: pick(above, bottom, sums.bottom),
     }
 }
 
@@ -137,7 +125,7 @@ pub(crate) fn wave_sums(
     };
     let mut i = 0;
     while i < n {
-        let sample = read_sample(settings.g, settings.lanes, flow[i], occupancy[i]);
+        let sample = sample_at(flow, occupancy, settings, i);
         sums = plus_above(sums, capacity, critical, sample);
         i += 1;
     }

@@ -1,5 +1,5 @@
 -- The decimal digits of a number: a digit alone, or the digits of its tenth part and the last one. Assumes nothing.
-use Prim.Native.Nat.{ℕ, zero, suc, _+_, _/_, _%_, _^_, _≤_, _<_, zero-le, suc-le-suc}
+use Prim.Native.Nat.{ℕ, zero, suc, _+_, _*_, _/_, _%_, _^_, _≤_, _<_, zero-le, suc-le-suc}
 use mathlib.Core.Path.{_≡_, refl, ap, sym, _∙_}
 use mathlib.Core.Bool.{Bool, true, false}
 use mathlib.Core.List.{List, [], _∷_, _++_}
@@ -34,7 +34,7 @@ pub more-digits : (n : ℕ) → 10 ≤ n → digitsOf n ≡ digitsOf (n / 10) ++
 unfolding digitsOf lastDigits
 more-digits n h = rw (le-ltb n 10 h) (ap (λ (l : List ℕ). l ++ (DIGIT + n % 10) ∷ []) (same-digits n (suc (n / 10)) (n / 10) (omega arith) (omega arith)))
 
--- numbers of two to five digits, two at a time
+-- numbers of two to five digits, two or four at a time
 tens : (m : ℕ) → m / 10 % 10 ≡ m % 100 / 10
 tens m = omega arith
 
@@ -59,11 +59,26 @@ four-digits n h g =
     more-digits n (omega arith)
     ∙ rw (three-digits (n / 10) (omega arith) (omega arith)) (rw (tenth-of-hundredth n, ← tens (n / 10), hundredth n, ← units (n / 10), tens n, units n))
 
-pub five-digits : (n : ℕ) → 10000 ≤ n → n < 100000 → digitsOf n ≡ (DIGIT + n / 100 / 100) ∷ twoOf (n / 100 % 100) ++ twoOf (n % 100)
-five-digits n h g =
+five-by-two : (n : ℕ) → 10000 ≤ n → n < 100000 → digitsOf n ≡ (DIGIT + n / 100 / 100) ∷ twoOf (n / 100 % 100) ++ twoOf (n % 100)
+five-by-two n h g =
     more-digits n (omega arith)
     ∙ rw (four-digits (n / 10) (omega arith) (omega arith))
     (rw (tenth-of-hundredth n, hundredth (n / 100), tens (n / 100), ← tens (n / 10), hundredth n, units (n / 100), ← units (n / 10), tens n, units n))
+
+pub five-digits : (n : ℕ) → 10000 ≤ n → n < 100000 → digitsOf n ≡ (DIGIT + n / 10000) ∷ twoOf (n % 10000 / 100) ++ twoOf (n % 10000 % 100)
+five-digits n h g =
+    let first : n / 100 / 100 ≡ n / 10000 = omega arith in
+    let next : n / 100 % 100 ≡ n % 10000 / 100 = omega arith in
+    let last : n % 100 ≡ n % 10000 % 100 = omega arith in
+    five-by-two n h g ∙ rw (first, next, last)
+
+-- four bytes taken out of the number that they make
+pub four-bytes : (a b c d : ℕ) → a < 256 → b < 256 → c < 256 → d < 256 → {x : ℕ} → x ≡ a + 256 * b + 65536 * (c + 256 * d)
+    → (x % 256 ≡ a) × (x / 256 % 256 ≡ b) × (x / 65536 % 256 ≡ c) × (x / 16777216 ≡ d)
+four-bytes a b c d ha hb hc hd {x} e =
+    let above : x / 256 ≡ b + 256 * (c + 256 * d) = omega arith in
+    let upper : x / 65536 ≡ c + 256 * d = omega arith in
+    (omega arith, omega (arith, above), omega (arith, upper), omega arith)
 
 pub one-longer : (n : ℕ) → 10 ≤ n → length (digitsOf n) ≡ length (digitsOf (n / 10)) + 1
 one-longer n h = ap length (more-digits n h) ∙ length-append (digitsOf (n / 10)) ((DIGIT + n % 10) ∷ [])

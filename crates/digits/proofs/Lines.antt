@@ -10,8 +10,9 @@ use lib.Dec.{leb, eqb}
 use lib.ListN.{length, getD, drop, length-append, drop-of-length-le}
 use lib.Seq.{sets, drop-cons}
 use Rattle.whole.specs.Search.{pick}
-use Rattle.digits.specs.Lines.{CR, LF, COMMA, digitsOf, furtherText, recordText, lineText}
-use Rattle.digits.specs.Writes.{separated}
+use Rattle.digits.specs.Lines.{CR, LF, COMMA, digitsOf, furtherText, recordText, restText, lineText}
+use Rattle.digits.specs.Writes.{separated, restWritten, afterRest}
+use Rattle.digits.specs.declared.Written.the-variants.{To, NoRoom}
 use Rattle.digits.proofs.Tests.{same-test}
 use Rattle.digits.proofs.Stores.{rest-of, stores-after}
 use Rattle.digits.proofs.Digits.{at-most-20}
@@ -24,20 +25,16 @@ no-more : length (furtherText []) ≡ 0
 unfolding furtherText
 no-more = refl
 
--- what is left of a line after its first number
-pub line-rest : List ℕ → List ℕ
-line-rest rest = furtherText rest ++ CR ∷ LF ∷ []
-
-pub line-starts : (n : ℕ) (rest : List ℕ) → lineText (n ∷ rest) ≡ digitsOf n ++ line-rest rest
-unfolding lineText recordText line-rest
+pub line-starts : (n : ℕ) (rest : List ℕ) → lineText (n ∷ rest) ≡ digitsOf n ++ restText rest
+unfolding lineText recordText restText
 line-starts n rest = append-assoc (digitsOf n) (furtherText rest) (CR ∷ LF ∷ [])
 
-pub line-goes-on : (n : ℕ) (rest : List ℕ) → line-rest (n ∷ rest) ≡ (COMMA ∷ digitsOf n) ++ line-rest rest
-unfolding furtherText line-rest
+pub line-goes-on : (n : ℕ) (rest : List ℕ) → restText (n ∷ rest) ≡ (COMMA ∷ digitsOf n) ++ restText rest
+unfolding furtherText restText
 line-goes-on n rest = append-assoc (COMMA ∷ digitsOf n) (furtherText rest) (CR ∷ LF ∷ [])
 
-pub line-ends : line-rest [] ≡ CR ∷ LF ∷ []
-unfolding furtherText line-rest
+pub line-ends : restText [] ≡ CR ∷ LF ∷ []
+unfolding furtherText restText
 line-ends = refl
 
 pub empty-line : lineText [] ≡ CR ∷ LF ∷ []
@@ -62,7 +59,7 @@ line-at-most (n ∷ rest) fit = omega (arith, line-length n rest, at-most-21 (n 
 
 -- what is left of a line from the number of index i on
 pub line-from : List ℕ → ℕ → List ℕ
-line-from numbers i = pick (eqb i 0) (lineText numbers) (line-rest (drop i numbers))
+line-from numbers i = pick (eqb i 0) (lineText numbers) (restText (drop i numbers))
 
 -- A line being written from the position `at` on: the numbers before index i stand in the buffer, up to the position `next`.
 
@@ -76,7 +73,7 @@ from-the-first : (numbers : List ℕ) → line-from numbers 0 ≡ lineText numbe
 unfolding line-from
 from-the-first numbers = refl
 
-from-a-later : (numbers : List ℕ) (i : ℕ) → line-from numbers (suc i) ≡ line-rest (drop (suc i) numbers)
+from-a-later : (numbers : List ℕ) (i : ℕ) → line-from numbers (suc i) ≡ restText (drop (suc i) numbers)
 unfolding line-from
 from-a-later numbers i = rw (ne-eqb (suc i) 0 (λ e. omega (arith, e)))
 
@@ -90,7 +87,7 @@ left-at [] i h = absurd (omega arith)
 left-at (n ∷ rest) zero h = rw (from-the-first (n ∷ rest)) (line-starts n rest ∙ ap (λ (l : List ℕ). digitsOf n ++ l) (sym (from-a-later (n ∷ rest) 0)))
 left-at (n ∷ rest) (suc i) h =
     rw (add-one (suc i), from-a-later (n ∷ rest) i, from-a-later (n ∷ rest) (suc i), ne-eqb (suc i) 0 (λ e. omega (arith, e)))
-    (ap line-rest (drop-cons (n ∷ rest) (suc i) 0 h) ∙ line-goes-on (getD (n ∷ rest) (suc i) 0) (drop (suc (suc i)) (n ∷ rest)))
+    (ap restText (drop-cons (n ∷ rest) (suc i) 0 h) ∙ line-goes-on (getD (n ∷ rest) (suc i) 0) (drop (suc (suc i)) (n ∷ rest)))
 
 left-length : (numbers : List ℕ) (i : ℕ) → i < length numbers → length (line-from numbers i) ≡ length (separated i (getD numbers i 0)) + length (line-from numbers (i + 1))
 left-length numbers i h = rw (left-at numbers i h) (length-append (separated i (getD numbers i 0)) (line-from numbers (i + 1)))
@@ -121,6 +118,28 @@ module _ {numbers buffer₀ : List ℕ} {at : ℕ} {buffer : List ℕ} {next i :
   pub end-put : Putting numbers buffer₀ at buffer next i → length numbers ≤ i → {later : List ℕ} {after : ℕ} → after ≡ next + 2 → later ≡ sets buffer next (CR ∷ LF ∷ [])
       → (after ≡ at + length (lineText numbers)) × (later ≡ sets buffer₀ at (lineText numbers))
   end-put here h n e = (n ∙ (rw (nothing-left numbers i h) at (here .ends)), e ∙ (rw (nothing-left numbers i h) at (here .stores)))
+
+-- Numbers that each follow a comma, written one by one from the position `at` on: those of `left` and the end are still to come.
+
+pub record Resting (numbers buffer₀ : List ℕ) (at : ℕ) (left buffer : List ℕ) (next : ℕ) : Type 0 where
+  pub stores : sets buffer next (restText left) ≡ sets buffer₀ at (restText numbers)
+  pub ends : next + length (restText left) ≡ at + length (restText numbers)
+
+pub rest-begins : (numbers buffer : List ℕ) (at : ℕ) → Resting numbers buffer at numbers buffer at
+rest-begins numbers buffer at = record { stores = refl; ends = refl }
+
+module _ {numbers buffer₀ : List ℕ} {at : ℕ} {buffer : List ℕ} {next : ℕ} where
+  pub further-put : (n : ℕ) (rest : List ℕ) → Resting numbers buffer₀ at (n ∷ rest) buffer next → {later : List ℕ} {after : ℕ} → after ≡ next + length (COMMA ∷ digitsOf n)
+      → later ≡ sets buffer next (COMMA ∷ digitsOf n) → Resting numbers buffer₀ at rest later after
+  further-put n rest here e s =
+      record {
+        stores = rw (s, e) (sym (stores-after buffer next (COMMA ∷ digitsOf n) (restText rest)) ∙ (rw (line-goes-on n rest) at (here .stores)));
+        ends = rw e (omega (arith, length-append (COMMA ∷ digitsOf n) (restText rest), rw (line-goes-on n rest) at (here .ends)));
+      }
+
+  pub rest-ends : Resting numbers buffer₀ at [] buffer next → {later : List ℕ} {after : ℕ} → after ≡ next + 2 → later ≡ sets buffer next (CR ∷ LF ∷ [])
+      → (after ≡ at + length (restText numbers)) × (later ≡ sets buffer₀ at (restText numbers))
+  rest-ends here e s = (e ∙ (rw line-ends at (here .ends)), s ∙ (rw line-ends at (here .stores)))
 
 -- a record of no numbers
 pub no-numbers : (numbers : List ℕ) → length numbers ≡ 0 → lineText numbers ≡ CR ∷ LF ∷ []
@@ -169,3 +188,21 @@ module _ {numbers : List ℕ} {room left i : ℕ} where
 pub at-least-2 : (numbers : List ℕ) → 2 ≤ length (lineText numbers)
 unfolding lineText
 at-least-2 numbers = omega (arith, length-append (recordText numbers) (CR ∷ LF ∷ []))
+
+-- the rest of a line, by the room that a buffer has
+pub no-rest : (buffer bytes : List ℕ) (at : ℕ) → length buffer < at + 128
+    → (NoRoom ≡ restWritten buffer at bytes) × ((buffer ≡ afterRest buffer at bytes) × ((end : ℕ) → NoRoom ≡ To end → end ≤ at + 128))
+unfolding restWritten afterRest
+no-rest buffer bytes at short =
+    (rw (lt-leb (at + 128) (length buffer) short), (rw (lt-leb (at + 128) (length buffer) short), λ end e. absurd (let z : _≡_ {A = ℕ} 0 1 = cc in omega arith)))
+
+pub rest-put : (buffer bytes : List ℕ) (at : ℕ) {to : ℕ} {later : List ℕ} → at + 128 ≤ length buffer → to ≡ at + length bytes → to ≤ at + 128 → later ≡ sets buffer at bytes
+    → (To to ≡ restWritten buffer at bytes) × ((later ≡ afterRest buffer at bytes) × ((end : ℕ) → To to ≡ To end → end ≤ at + 128))
+unfolding restWritten afterRest
+rest-put buffer bytes at {to} has e most s =
+    (rw (le-leb (at + 128) (length buffer) has) (ap To e), (rw (le-leb (at + 128) (length buffer) has) s, λ end same. let there : to ≡ end = cc in omega (arith, most, there)))
+
+-- and where a caller's buffer has it
+pub rest-fits : (buffer bytes : List ℕ) (at : ℕ) → at + 128 ≤ length buffer → (restWritten buffer at bytes ≡ To (at + length bytes)) × (afterRest buffer at bytes ≡ sets buffer at bytes)
+unfolding restWritten afterRest
+rest-fits buffer bytes at has = (rw (le-leb (at + 128) (length buffer) has), rw (le-leb (at + 128) (length buffer) has))

@@ -10,6 +10,8 @@ use borrow.Fn.Kinds.{PK, RK, Out, Dens, endedOf, resT}
 use Rattle.whole.proofs.Settles.{Settles, settled}
 use Rattle.digits.proofs.write_decimal.Kinds as write-decimal-kinds
 use Rattle.digits.proofs.write_decimal.Reads as write-decimal
+use Rattle.digits.proofs.write_rest.Kinds as write-rest-kinds
+use Rattle.digits.proofs.write_rest.Reads as write-rest
 use Rattle.digits.proofs.write_record.Kinds as write-record-kinds
 use Rattle.digits.proofs.write_record.Reads as write-record
 
@@ -29,3 +31,9 @@ write-record-settles κs a y z e f p q = settled (p .0) (q .0)
 
 pub write-record-settles-buffer : SettlesLater _ write-record-kinds.ps write-record-kinds.r write-record.Learnt (λ κs e. now (e .1 .0))
 write-record-settles-buffer κs a y z e f p q = settled (p .1) (q .1)
+
+pub write-rest-settles : Settles _ write-rest-kinds.ps write-rest-kinds.r write-rest.Learnt
+write-rest-settles κs a y z e f p q = settled (p .0) (q .0)
+
+pub write-rest-settles-buffer : SettlesLater _ write-rest-kinds.ps write-rest-kinds.r write-rest.Learnt (λ κs e. now (e .1 .1 .1 .1 .1 .1 .0))
+write-rest-settles-buffer κs a y z e f p q = settled (p .1 .0) (q .1 .0)

@@ -1,6 +1,6 @@
 -- A list from an index on, and a run of stores part by part. Assumes nothing.
 use Prim.Native.Nat.{ℕ, suc, _+_, _<_}
-use mathlib.Core.Path.{_≡_, ap, sym, _∙_}
+use mathlib.Core.Path.{_≡_, ap, _∙_}
 use mathlib.Core.List.{List, [], _∷_, _++_}
 use native.Mathlib.Numerals.{add-one}
 use native.Mathlib.Omega.{arith}
@@ -14,6 +14,3 @@ rest-of list i h = rw add-one (drop-cons list i 0 h)
 pub stores-after : (l : List ℕ) (i : ℕ) (a b : List ℕ) → sets l i (a ++ b) ≡ sets (sets l i a) (i + length a) b
 stores-after l i [] b = ap (λ (k : ℕ). sets l k b) (omega arith)
 stores-after l i (x ∷ a) b = stores-after (set l i x) (suc i) a b ∙ ap (λ (k : ℕ). sets (sets l i (x ∷ a)) k b) (omega arith)
-
-pub first-then-two : (l : List ℕ) (i x : ℕ) (a b : List ℕ) → sets (sets (set l i x) (i + 1) a) (i + 1 + length a) b ≡ sets l i (x ∷ a ++ b)
-first-then-two l i x a b = sym (stores-after (set l i x) (i + 1) a b) ∙ ap (λ (k : ℕ). sets (set l i x) k (a ++ b)) (add-one i)

@@ -36,6 +36,10 @@ unfoldable pub recordText : List ℕ → List ℕ
 recordText [] = []
 recordText (n ∷ rest) = digitsOf n ++ furtherText rest
 
+-- what is left of a line after a number: further numbers, and the record's end
+unfoldable pub restText : List ℕ → List ℕ
+restText rest = furtherText rest ++ CR ∷ LF ∷ []
+
 -- a record with its end
 unfoldable pub lineText : List ℕ → List ℕ
 lineText row = recordText row ++ CR ∷ LF ∷ []

@@ -1,12 +1,12 @@
 // Decimal digits, most significant first, and the line of a record, into a buffer that has room for them.
 ghost use mathlib.Core.Path.{_≡_};
-ghost use Prim.Native.Nat.{_+_, _≤_, _<_};
+ghost use Prim.Native.Nat.{_+_, _/_, _%_, _≤_, _<_};
 ghost use lib.Dec.{leb};
 ghost use lib.ListN.{length};
 ghost use lib.Seq.{sets};
-ghost use mathlib.Core.List.{_∷_, []};
-ghost use Rattle.digits.specs.Lines.{COMMA, CR, LF, DIGIT, digitsOf, furtherText, lineText};
-ghost use Rattle.digits.specs.Writes.{twoOf, comma, separated};
+ghost use mathlib.Core.List.{_∷_, [], _++_};
+ghost use Rattle.digits.specs.Lines.{COMMA, CR, LF, DIGIT, digitsOf, furtherText, restText, lineText};
+ghost use Rattle.digits.specs.Writes.{twoOf, pairOf, fourOf, comma, separated};
 
 // How many decimal digits a number has.
 fn digit_count(number: u64) -> usize
@@ -29,21 +29,58 @@ fn digit(number: u64) -> u8
     b'0' + (number as u8)
 }
 
+// The bytes of the two digits of a number below 100 as one number, so that they are stored at once.
+fn pair(number: u64) -> u64
+    requires { ⌜ number < 100 ⌝ }
+    ensures { λ r. ⌜ r ≡ pairOf number ⌝ }
+{
+    12_336 + 256 * number - 2_559 * (number / 10)
+}
+
+// The bytes of the four digits of a number below 10,000 as one number.
+fn four(number: u64) -> u64
+    requires { ⌜ number < 10_000 ⌝ }
+    ensures { λ r. ⌜ r ≡ fourOf number ⌝ }
+{
+    let high = number / 100;
+    let low = number % 100;
+    808_464_432 + 256 * (high + 65_536 * low) - 2_559 * (high / 10 + 65_536 * (low / 10))
+}
+
 // Writes the two digits of a number below 100.
 fn put_two(number: u64, buffer: &mut [u8], at: usize)
     requires { ⌜ (number < 100) × (at + 2 ≤ length (now buffer)) ⌝ }
     ensures { λ _. ⌜ now (buffer .exit) ≡ sets (now (buffer .entry)) at (twoOf number) ⌝ }
 {
-    buffer[at] = digit(number / 10);
-    buffer[at + 1] = digit(number % 10);
+    let bytes = pair(number);
+    buffer[at] = (bytes % 256) as u8;
+    buffer[at + 1] = (bytes / 256) as u8;
 }
 
-// Writes the digits of a number below 100,000, as most numbers of a flow sheet are, with no call of itself.
+// Writes the four digits of a number below 10,000.
+fn put_four(number: u64, buffer: &mut [u8], at: usize)
+    requires { ⌜ (number < 10_000) × (at + 4 ≤ length (now buffer)) ⌝ }
+    ensures { λ _. ⌜ now (buffer .exit) ≡ sets (now (buffer .entry)) at (twoOf (number / 100) ++ twoOf (number % 100)) ⌝ }
+{
+    let bytes = four(number);
+    buffer[at] = (bytes % 256) as u8;
+    buffer[at + 1] = (bytes / 256 % 256) as u8;
+    buffer[at + 2] = (bytes / 65_536 % 256) as u8;
+    buffer[at + 3] = (bytes / 16_777_216) as u8;
+}
+
+// Writes the digits of a number below 100,000, as most numbers of a flow sheet are, with no call of itself. Five digits are
+// the most frequent, after one.
 fn put_few(number: u64, buffer: &mut [u8], at: usize) -> usize
     requires { ⌜ (number < 100_000) × (at + length (digitsOf number) ≤ length (now buffer)) ⌝ }
     ensures answer { λ r. ⌜ r ≡ at + length (digitsOf number) ⌝ }
     ensures stores { λ _. ⌜ now (buffer .exit) ≡ sets (now (buffer .entry)) at (digitsOf number) ⌝ }
 {
+    if 10_000 <= number {
+        buffer[at] = digit(number / 10_000);
+        put_four(number % 10_000, buffer, at + 1);
+        return at + 5;
+    }
     if number < 10 {
         buffer[at] = digit(number);
         return at + 1;
@@ -57,15 +94,8 @@ fn put_few(number: u64, buffer: &mut [u8], at: usize) -> usize
         put_two(number % 100, buffer, at + 1);
         return at + 3;
     }
-    if number < 10_000 {
-        put_two(number / 100, buffer, at);
-        put_two(number % 100, buffer, at + 2);
-        return at + 4;
-    }
-    buffer[at] = digit(number / 100 / 100);
-    put_two(number / 100 % 100, buffer, at + 1);
-    put_two(number % 100, buffer, at + 3);
-    at + 5
+    put_four(number, buffer, at);
+    at + 4
 }
 
 // Writes the digits of a number: those before the last, by a call with a smaller number, and then the last.
@@ -196,4 +226,45 @@ pub(crate) fn put_line(numbers: &[u64], buffer: &mut [u8], at: usize) -> usize
         i += 1;
     }
     put_end(buffer, next)
+}
+
+// Writes a number after a comma; one digit needs no call.
+fn put_further(number: u64, buffer: &mut [u8], at: usize) -> usize
+    requires { ⌜ at + 21 ≤ length (now buffer) ⌝ }
+    ensures answer { λ r. ⌜ r ≡ at + length (COMMA ∷ digitsOf number) ⌝ }
+    ensures within { λ r. ⌜ r ≤ at + 21 ⌝ }
+    ensures stores { λ _. ⌜ now (buffer .exit) ≡ sets (now (buffer .entry)) at (COMMA ∷ digitsOf number) ⌝ }
+{
+    buffer[at] = b',';
+    if number < 10 {
+        buffer[at + 1] = digit(number);
+        return at + 2;
+    }
+    put_number(number, buffer, at + 1)
+}
+
+// Writes the rest of a record of seven numbers after its first: six numbers, each after a comma, and the end. They take at
+// most 128 bytes, since each number has at most 20 digits.
+pub(crate) fn put_rest(
+    a: u64,
+    b: u64,
+    c: u64,
+    d: u64,
+    e: u64,
+    f: u64,
+    buffer: &mut [u8],
+    at: usize,
+) -> usize
+    requires { ⌜ at + 128 ≤ length (now buffer) ⌝ }
+    ensures answer { λ r. ⌜ r ≡ at + length (restText (a ∷ b ∷ c ∷ d ∷ e ∷ f ∷ [])) ⌝ }
+    ensures within { λ r. ⌜ r ≤ at + 128 ⌝ }
+    ensures stores { λ _. ⌜ now (buffer .exit) ≡ sets (now (buffer .entry)) at (restText (a ∷ b ∷ c ∷ d ∷ e ∷ f ∷ [])) ⌝ }
+{
+    let after_a = put_further(a, buffer, at);
+    let after_b = put_further(b, buffer, after_a);
+    let after_c = put_further(c, buffer, after_b);
+    let after_d = put_further(d, buffer, after_c);
+    let after_e = put_further(e, buffer, after_d);
+    let after_f = put_further(f, buffer, after_e);
+    put_end(buffer, after_f)
 }

@@ -1,5 +1,7 @@
 // Runs document 01's worked figures through the public functions and prints a line for each, which is held to the
 // stored output. The starred ones are also proved, as one list of cases (specs/Figures.antt).
+mod calibrations;
+
 // The two cells of the printed example.
 const ROAD: [u32; 18] = [
     32_768,
@@ -95,6 +97,7 @@ fn one_cut(n: u32) {
 fn first_periods() {
     let mut two_cells = [500u32, 8_000, 4_000, 0, 0];
     let mut two_sheet = [0u32; 9];
+    show::total(b"printed, vehicles before: ", &two_cells);
     one_period(
         b"printed",
         &ROAD,
@@ -102,6 +105,7 @@ fn first_periods() {
         &[300, 0, 0, 0, 0],
         &mut two_sheet,
     );
+    show::total(b"printed, vehicles after: ", &two_cells);
     let mut sheet = [0u32; 5];
     let mut split = [0u32, 1_000, 0];
     one_period(
@@ -160,4 +164,5 @@ fn main() {
     one_cut(7);
     one_cut(1);
     one_cut(10);
+    calibrations::calibrations();
 }

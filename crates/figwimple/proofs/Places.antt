@@ -8,7 +8,7 @@ use borrow.Author.Tests.{ltb-true, leb-true}
 use lib.Dec.{ltb, leb, eqb}
 use lib.Ieee.{Float}
 use lib.ListN.{length}
-use Rattle.whole.specs.Search.{pick, within}
+use Rattle.whole.specs.Search.{pick}
 use Rattle.whole.proofs.Search.{is-first}
 use Rattle.corridor.specs.declared.Answer.{Answer}
 use Rattle.corridor.specs.declared.Answer.the-variants.{Accepted, Refused}
@@ -17,7 +17,7 @@ use Rattle.corridor.specs.Refusals.{placeOf}
 use Rattle.corridor.specs.Checks.{Check, least, orLater, answer, whenAccepted}
 use Rattle.corridor.specs.Acceptance.{tableLengthFits, stateLengthsFit, rowLengthsFit, lengths, tableNumbers, stateInRange, stateNumbers, demandNumbers, tableChecks, stateChecks, rowChecks, bothTables}
 use Rattle.corridor.proofs.Answers.{accepted-passes}
-use Rattle.corridor.proofs.Ranges.{both-hold}
+use Rattle.corridor.proofs.Ranges.{both-hold, cells-fit}
 use Rattle.period.specs.Period.{sheetLength, periodChecks}
 use Rattle.run.specs.Run.{rows, rowOf, stateAfterPeriods, runListsFit, runChecks, isAccepted, rowAnswer, completed, rowsAnswer, periodsRun, runAnswer}
 use Rattle.recut.specs.Recut.{recutListsFit, piecesNumbers, recutChecks}
@@ -53,10 +53,6 @@ each-of-both (check ∷ first) later one two = (one .0, each-of-both first later
 
 -- The checks of tables, states and demand rows
 
-few-cells : (table : List ℕ) → tableLengthFits table ≡ true → cells table ≤ 512
-few-cells table e =
-    leb-true (cells table) 512 (both-hold (leb 1 (cells table)) _ (both-hold (eqb (length table % 9) 0) (within 1 512 (cells table)) e .1) .1)
-
 module _ (table : List ℕ) (few : cells table ≤ 512) where
   of-table : Each (tableNumbers table)
   of-table = (λ i h. omega arith, (λ i h. omega arith, (λ k h. omega arith, tt)))
@@ -71,13 +67,13 @@ module _ (table : List ℕ) (few : cells table ≤ 512) where
   of-row state demand = each-of-both (stateNumbers table state) (demandNumbers table state demand) (of-state state) (of-demand state demand)
 
 few-under-state : (table state : List ℕ) → stateLengthsFit table state ≡ true → cells table ≤ 512
-few-under-state table state e = few-cells table (both-hold (tableLengthFits table) _ e .0)
+few-under-state table state e = cells-fit table (both-hold (tableLengthFits table) _ e .0) .most
 
 few-under-row : (table state demand : List ℕ) → rowLengthsFit table state demand ≡ true → cells table ≤ 512
 few-under-row table state demand e = few-under-state table state (both-hold (stateLengthsFit table state) _ e .0)
 
 pub table-placed : (table : List ℕ) → Placed (answer (tableChecks table))
-table-placed table = behind-lengths (tableLengthFits table) (tableNumbers table) λ e. of-table table (few-cells table e)
+table-placed table = behind-lengths (tableLengthFits table) (tableNumbers table) λ e. of-table table (cells-fit table e .most)
 
 pub state-placed : (table state : List ℕ) → Placed (answer (stateChecks table state))
 state-placed table state =
@@ -141,8 +137,8 @@ pub recut-placed : (old state pieces new list : List ℕ) → Placed (answer (re
 recut-placed old state pieces new list =
     behind-lengths (tableLengthFits old && tableLengthFits new && recutListsFit old state pieces new list) (bothTables old new ++ (stateInRange old state ∷ piecesNumbers old pieces new))
     λ e. let tables = both-hold (tableLengthFits old) (tableLengthFits new) (both-hold _ (recutListsFit old state pieces new list) e .0) in
-    let few = few-cells old (tables .0) in
-    let fewNew = few-cells new (tables .1) in
+    let few = cells-fit old (tables .0) .most in
+    let fewNew = cells-fit new (tables .1) .most in
     (λ i h. omega arith, (λ i h. omega arith, (λ i h. omega arith, (λ i h. omega arith, (λ i h. omega arith, (λ i h. omega arith, (λ i h. omega arith, (λ i h. omega arith, (λ i h. omega arith, tt)))))))))
 
 pub calibration-placed : (settings : Settings) (flow occupancy : List Float) → Placed (answer (calibrationChecks settings flow occupancy))

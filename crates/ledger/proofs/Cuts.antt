@@ -1,22 +1,20 @@
 -- A re-cut is sound: it changes the table and keeps the rest. Assumes nothing.
 use Prim.Native.Nat.{ℕ}
 use mathlib.Core.Path.{_≡_, refl, ap, _∙_}
-use mathlib.Core.Bool.{true, _&&_, and-true}
+use mathlib.Core.Bool.{_&&_, and-true}
 use mathlib.Core.List.{List}
 use native.Mathlib.Omega.{arith}
 use borrow.Author.Tests.{eq-eqb}
-use lib.ListN.{length}
 use Rattle.corridor.specs.declared.Answer.{Answer}
 use Rattle.corridor.specs.declared.Answer.the-variants.{Accepted, Refused}
-use Rattle.corridor.specs.Layout.{cells, stateLength, entryQueue}
 use Rattle.corridor.specs.Checks.{answer, whenAccepted}
-use Rattle.corridor.specs.Acceptance.{tableLengthFits, stateLengthsFit, stateNumbers}
+use Rattle.corridor.specs.Acceptance.{tableLengthFits, stateNumbers}
 use Rattle.corridor.proofs.Answers.{lengths-passed}
 use Rattle.recut.specs.Recut.{newState, recutChecks}
 use Rattle.recut.proofs.Facts.{CutFits, cut-fits}
 use Rattle.recut.proofs.Done.{accepted-is-cut}
 use Rattle.recut.proofs.Kept.{new-length, cut-keeps-vehicles, cut-keeps-each-queue, cut-keeps-the-ramps, new-state-is-accepted}
-use Rattle.ledger.specs.Calls.{Corridor, Call, IsAccepted, recut, leaves, accepts, letsOut, acceptsAt, letsInAt}
+use Rattle.ledger.specs.Calls.{recut, leaves, accepts, letsOut, acceptsAt, letsInAt}
 use Rattle.ledger.proofs.Sound.{Sound, nothing, CallIsSound}
 
 cut-is-sound : (old state pieces new : List ℕ) → CutFits old state pieces new → Sound (record { table = old; state = state }) (record { table = new; state = newState old state pieces new }) 0 0 (λ _. 0) (λ _. 0)

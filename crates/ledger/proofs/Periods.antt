@@ -1,35 +1,31 @@
 -- A period is sound, and so are the periods that a run completes. Assumes nothing.
 use Prim.Native.Nat.{ℕ, zero, suc, _+_, _≤_, _<_, zero-le}
-use mathlib.Core.Path.{_≡_, refl, sym, ap, ap₂, _∙_}
+use mathlib.Core.Path.{_≡_, refl, sym, ap, _∙_}
 use mathlib.Core.Bool.{Bool, true, false, false≢true}
-use mathlib.Core.List.{List, [], _∷_, _++_}
+use mathlib.Core.List.{List}
 use native.Mathlib.Omega.{arith}
-use borrow.Author.Tests.{eqb-true, eq-eqb}
 use lib.Dec.{eqb}
-use lib.ListN.{length}
 use Rattle.whole.specs.Sums.{sum}
 use Rattle.whole.specs.Search.{pick}
 use Rattle.whole.proofs.Sums.{sum-of-sums, sum-of-equal-terms}
 use Rattle.whole.proofs.Search.{is-first}
-use Rattle.corridor.specs.declared.Refusal.{Refusal}
 use Rattle.corridor.specs.declared.Answer.{Answer}
 use Rattle.corridor.specs.declared.Answer.the-variants.{Accepted, Refused}
-use Rattle.corridor.specs.Layout.{cells, rowAt, stateLength, queueAt, onDemandAt}
+use Rattle.corridor.specs.Layout.{cells, rowAt, queueAt, onDemandAt}
 use Rattle.corridor.specs.Vehicles.{atOnRamp}
 use Rattle.corridor.specs.Checks.{answer, whenAccepted}
-use Rattle.corridor.specs.Acceptance.{tableLengthFits, stateLengthsFit, rowLengthsFit, stateNumbers, demandNumbers, stateChecks}
+use Rattle.corridor.specs.Acceptance.{stateLengthsFit, stateNumbers, demandNumbers}
 use Rattle.corridor.proofs.Answers.{accepted-passes, accepted-both, lengths-passed}
-use Rattle.corridor.proofs.Ranges.{both-hold}
 use Rattle.period.specs.Sharing.{asymmetric}
-use Rattle.period.specs.Period.{onFlowAt, stateAfter, periodChecks, sheetLength}
+use Rattle.period.specs.Period.{onFlowAt, stateAfter, periodChecks}
 use Rattle.period.specs.Account.{demanded, leftRoad}
 use Rattle.period.proofs.Fair.{asymmetric-is-fair}
 use Rattle.period.proofs.Reading.{after-length, after-queue}
 use Rattle.period.proofs.Laws.{queue-balance}
 use Rattle.period.proofs.Again.{t, s, d, state-stays-accepted, vehicles-balance}
 use Rattle.period.proofs.Rows.{same-length-fits}
-use Rattle.run.specs.Run.{rows, rowOf, isAccepted, stateAfterPeriods, rowAnswer, completed, runChecks, periodsRun}
-use Rattle.ledger.specs.Calls.{Corridor, Call, IsAccepted, period, run, leaves, accepts, letsOut, acceptsAt, letsInAt, queueOf}
+use Rattle.run.specs.Run.{rows, rowOf, isAccepted, stateAfterPeriods, rowAnswer, completed, runChecks}
+use Rattle.ledger.specs.Calls.{Corridor, IsAccepted, period, run, leaves, accepts, letsOut, acceptsAt, letsInAt}
 use Rattle.ledger.proofs.Sound.{Sound, nothing, then, CallIsSound}
 
 -- what balances at each cell balances over the cells of an on-ramp number

@@ -1,7 +1,6 @@
 -- One call, and calls in a row. Assumes nothing.
-use Prim.Native.Nat.{ℕ, zero, suc, _+_, _≤_, _<_}
-use mathlib.Core.Path.{_≡_, refl, sym, ap, _∙_}
-use mathlib.Core.Bool.{Bool, true, false}
+use Prim.Native.Nat.{ℕ, _+_}
+use mathlib.Core.Path.{_≡_, refl, _∙_}
 use mathlib.Core.List.{List, [], _∷_}
 use native.Mathlib.Omega.{arith}
 use Rattle.ledger.specs.Calls.{Corridor, Call, IsAccepted, leaves, leavesAll, over, accepts, letsOut, acceptsAt, letsInAt, queueOf, vehiclesOf, rampsOf}

@@ -5,13 +5,13 @@ use mathlib.Core.Bool.{Bool, true, false, _&&_}
 use mathlib.Core.List.{List, [], _∷_}
 use native.Mathlib.Omega.{arith}
 use borrow.Author.Tests.{le-leb}
-use lib.Dec.{eqb, leb}
+use lib.Dec.{eqb}
 use Rattle.whole.specs.Sums.{sum, atPosition}
 use Rattle.whole.specs.Search.{pick}
 use Rattle.whole.proofs.Search.{Passes}
 use Rattle.whole.proofs.Sums.{sum-of-sums, sum-of-equal-terms, balance}
 use Rattle.corridor.specs.declared.Answer.the-variants.{Accepted}
-use Rattle.corridor.specs.Layout.{cells, rowAt, entryQueue, countAt, queueAt, entryDemand, onDemandAt}
+use Rattle.corridor.specs.Layout.{cells, rowAt, entryQueue, countAt, queueAt, onDemandAt}
 use Rattle.corridor.specs.Vehicles.{vehicles}
 use Rattle.corridor.specs.Checks.{answer}
 use Rattle.corridor.specs.Acceptance.{withRamp, queueLimit, demandLimit, tableNumbers, stateInRange, stateNumbers, demandNumbers}

@@ -1,5 +1,5 @@
 -- What demand 3 needs of a way of sharing room, and of the off-ramp: no other fact of either is used. Assumes nothing.
-use Prim.Native.Nat.{ℕ, _+_, _-_, _*_, _≤_, min}
+use Prim.Native.Nat.{ℕ, _+_, _-_, _≤_, min}
 use mathlib.Core.Path.{_≡_, refl}
 use mathlib.Core.Bool.{Bool, true, false}
 use native.Mathlib.Omega.{arith}
@@ -9,7 +9,7 @@ use Rattle.whole.specs.Share.{ONE, share}
 use Rattle.whole.specs.Search.{pick}
 use Rattle.whole.proofs.Shares.{share-within, part-within, shares-fit}
 use Rattle.corridor.specs.declared.Row.{Row}
-use Rattle.period.specs.Cell.{D, R, M, byOffRamp, offered, leaving, offFlow}
+use Rattle.period.specs.Cell.{D, M, leaving, offFlow}
 use Rattle.period.specs.Sharing.{Sharing, asymmetric}
 
 pub record Fair (way : Sharing) : Type 0 where

@@ -1,6 +1,6 @@
 -- The sheet as it is filled from the last cell up the road: the room ahead is that of the cell just passed. Assumes nothing.
 use Prim.Native.Nat.{ℕ, zero, suc, _+_, _-_, _*_, _≤_, _<_, min}
-use mathlib.Core.Path.{_≡_, refl, sym, ap, _∙_}
+use mathlib.Core.Path.{_≡_, refl, ap, _∙_}
 use mathlib.Core.Bool.{Bool, true, false}
 use mathlib.Core.List.{List, _++_}
 use native.Mathlib.Nat.{not-suc-le-zero}
@@ -16,7 +16,7 @@ use Rattle.corridor.specs.declared.Row.{Row}
 use Rattle.corridor.specs.Layout.{cells, rowAt, entryQueue, countAt, queueAt, entryDemand, onDemandAt, offDemandAt}
 use Rattle.corridor.proofs.Accepted.{TableFits, RowFits}
 use Rattle.period.specs.declared.Flows.{Flows}
-use Rattle.period.specs.Cell.{R, M, capacityNow, offFlow, flowsUpTo}
+use Rattle.period.specs.Cell.{R, offFlow, flowsUpTo}
 use Rattle.period.specs.Sharing.{asymmetric}
 use Rattle.period.specs.Sheet.{withFlows, withEntryFlow}
 use Rattle.period.specs.Period.{flowAt, offFlowAt, onFlowAt, freeAt, modeAt, sheetOf, sheetLength}

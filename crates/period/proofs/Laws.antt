@@ -1,15 +1,14 @@
 -- What demand 3 needs of a period, for any fair way of sharing room, from an accepted table, state and demand row. Assumes nothing.
-use Prim.Native.Nat.{ℕ, suc, _+_, _-_, _≤_, _<_, min}
-use mathlib.Core.Path.{_≡_, refl, sym, ap, _∙_}
+use Prim.Native.Nat.{ℕ, suc, _+_, _-_, _≤_, _<_}
+use mathlib.Core.Path.{_≡_}
 use mathlib.Core.Bool.{Bool, true, false}
 use mathlib.Core.List.{List}
 use native.Mathlib.Omega.{arith}
-use borrow.Author.Tests.{lt-ltb, le-ltb}
+use borrow.Author.Tests.{lt-ltb}
 use lib.Dec.{ltb}
 use Rattle.whole.specs.Search.{pick}
 use Rattle.corridor.specs.Layout.{cells, rowAt, entryQueue, countAt, queueAt, entryDemand, onDemandAt, offDemandAt}
 use Rattle.corridor.proofs.Accepted.{TableFits, StateFits, RowFits}
-use Rattle.period.specs.Cell.{offFlow}
 use Rattle.period.specs.Sharing.{Sharing}
 use Rattle.period.specs.Period.{offerAt, rampOfferAt, flowAt, offFlowAt, onFlowAt, countAfter, entryQueueAfter, queueAfter}
 use Rattle.period.proofs.Fair.{Fair, sends-what-it-has, leaves-what-it-has}

@@ -2,17 +2,15 @@
 use Prim.Native.Nat.{ℕ, suc, _+_, _*_, _<_}
 use mathlib.Core.Path.{_≡_, ap, _∙_}
 use mathlib.Core.List.{List, _++_}
-use native.Mathlib.Numerals.{one-add}
 use native.Mathlib.Omega.{arith}
 use lib.ListN.{length, getD, length-append}
 use Rattle.whole.specs.Lists.{build}
-use Rattle.whole.specs.Sums.{atPosition}
-use Rattle.whole.proofs.Lists.{build-length, build-at, at-build, past-build}
+use Rattle.whole.proofs.Lists.{build-length, at-build, past-build}
 use Rattle.corridor.specs.Layout.{cells, stateLength, entryQueue, countAt, queueAt}
 use Rattle.corridor.proofs.States.{laid-length, laid-entry, laid-count, laid-queue}
 use Rattle.period.specs.Sharing.{Sharing}
 use Rattle.period.specs.Sheet.{flowIn, offFlowIn, onFlowIn}
-use Rattle.period.specs.Period.{flowAt, offFlowAt, onFlowAt, modeAt, countAfter, entryQueueAfter, queueAfter, sheetLength, sheetOf, stateAfter}
+use Rattle.period.specs.Period.{flowAt, offFlowAt, onFlowAt, countAfter, entryQueueAfter, queueAfter, sheetLength, sheetOf, stateAfter}
 
 module _ (way : Sharing) (table state demand : List ℕ) where
   abbrev after : List ℕ

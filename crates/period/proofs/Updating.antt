@@ -1,16 +1,15 @@
 -- The state as it is brought up to date from the last cell up the road. Assumes nothing.
-use Prim.Native.Nat.{ℕ, zero, suc, _+_, _-_, _*_, _≤_, _<_}
-use mathlib.Core.Path.{_≡_, refl, sym, ap, _∙_}
-use mathlib.Core.List.{List, _++_}
+use Prim.Native.Nat.{ℕ, zero, suc, _+_, _-_, _≤_, _<_}
+use mathlib.Core.Path.{_≡_, refl, ap, _∙_}
+use mathlib.Core.List.{List}
 use native.Mathlib.Nat.{not-suc-le-zero}
 use native.Mathlib.Numerals.{add-one}
 use native.Mathlib.Omega.{arith}
 use lib.ListN.{length, getD, set, length-set}
 use lib.Seq.{getD-set-same, getD-set-other}
-use Rattle.whole.specs.Lists.{build}
 use Rattle.whole.specs.Sums.{atPosition}
 use Rattle.whole.proofs.Columns.{Column, column-none, column-more, column-stays, column-part}
-use Rattle.corridor.specs.Layout.{cells, rowAt, stateLength, entryQueue, countAt, queueAt, entryDemand, onDemandAt}
+use Rattle.corridor.specs.Layout.{cells, stateLength, entryQueue, countAt, queueAt, entryDemand, onDemandAt}
 use Rattle.corridor.proofs.States.{whole-state}
 use Rattle.period.specs.Sharing.{asymmetric}
 use Rattle.period.specs.Sheet.{flowIn, offFlowIn, onFlowIn}

@@ -1,9 +1,8 @@
 -- The first half of number 8: whether the counts sum to the new N. Assumes nothing.
-use mathlib.Core.Path.{_≡_, refl}
+use mathlib.Core.Path.{_≡_}
 use mathlib.Core.List.{List}
 use Prim.Native.Nat.{ℕ}
 use borrow.Author.Tests.{eq-eqb, ne-eqb}
-use lib.Dec.{eqb}
 use Rattle.whole.specs.Sums.{sum}
 use Rattle.corridor.specs.declared.Answer.{Answer}
 use Rattle.corridor.specs.declared.Answer.the-variants.{Refused}

@@ -1,21 +1,20 @@
 -- How a re-cut ends: what it answers and leaves. Assumes nothing.
-use Prim.Native.Nat.{ℕ, _%_, _≤_}
-use mathlib.Core.Path.{_≡_, refl, sym, ap, _∙_}
-use mathlib.Core.Bool.{Bool, true, false, _&&_, and-true}
+use Prim.Native.Nat.{ℕ, _≤_}
+use mathlib.Core.Path.{_≡_, sym, ap, _∙_}
+use mathlib.Core.Bool.{true, false, _&&_, and-true}
 use mathlib.Core.List.{List, [], _∷_, _++_}
 use native.Mathlib.Omega.{arith}
-use borrow.Author.Tests.{eqb-true, eq-eqb, leb-true}
-use lib.Dec.{eqb, leb}
+use borrow.Author.Tests.{eqb-true, eq-eqb}
+use lib.Dec.{eqb}
 use lib.ListN.{length}
-use Rattle.whole.specs.Search.{within}
 use Rattle.corridor.specs.declared.Refusal.{Refusal}
 use Rattle.corridor.specs.declared.Refusal.the-variants.{Length}
 use Rattle.corridor.specs.declared.Answer.the-variants.{Accepted, Refused}
 use Rattle.corridor.specs.Layout.{cells, stateLength}
 use Rattle.corridor.specs.Checks.{Check, answer}
-use Rattle.corridor.specs.Acceptance.{tableLengthFits, stateLengthsFit, stateInRange, bothTables, bothTablesChecks, stateAloneChecks}
+use Rattle.corridor.specs.Acceptance.{tableLengthFits, stateInRange, bothTables, bothTablesChecks, stateAloneChecks}
 use Rattle.corridor.proofs.Answers.{length-fails, length-fits-too, lengths-passed, refused-stays, accepted-goes-on, accepted-passes, accepted-both}
-use Rattle.corridor.proofs.Ranges.{both-hold}
+use Rattle.corridor.proofs.Ranges.{both-hold, cells-fit}
 use Rattle.recut.specs.Recut.{newState, recutListsFit, piecesNumbers, recutChecks, Cut, RecutDone}
 
 module _ (old state pieces new list : List ℕ) where
@@ -53,12 +52,8 @@ module _ (old state pieces new list : List ℕ) where
       table-lengths : (tableLengthFits old ≡ true) × (tableLengthFits new ≡ true)
       table-lengths = both-hold (tableLengthFits old) (tableLengthFits new) (accepted-passes _ _ (sym tables) .0 0 (omega arith))
 
-      cells-within : (table : List ℕ) → tableLengthFits table ≡ true → cells table ≤ 512
-      cells-within table e =
-          leb-true (cells table) 512 (both-hold (leb 1 (cells table)) (leb (cells table) 512) (both-hold (eqb (length table % 9) 0) (within 1 512 (cells table)) e .1) .1)
-
       pub pieces-ask : (length pieces ≡ cells old) × (cells old ≤ 512) × (cells new ≤ 512)
-      pieces-ask = (counts-length, cells-within old (table-lengths .0), cells-within new (table-lengths .1))
+      pieces-ask = (counts-length, cells-fit old (table-lengths .0) .most, cells-fit new (table-lengths .1) .most)
 
       state-alone : answer (stateAloneChecks old state) ≡ answer (stateInRange old state ∷ [])
       state-alone =

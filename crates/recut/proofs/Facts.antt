@@ -1,27 +1,25 @@
 -- What an accepted re-cut is known to start from, cell by cell and piece by piece. Assumes nothing.
-use Prim.Native.Nat.{ℕ, suc, _+_, _-_, _%_, _≤_, _<_}
-use mathlib.Core.Path.{_≡_, refl, sym, ap, _∙_}
-use mathlib.Core.Bool.{Bool, true, false, not, _&&_, _||_, false≢true}
+use Prim.Native.Nat.{ℕ, suc, _+_, _-_, _≤_, _<_}
+use mathlib.Core.Path.{_≡_, refl, ap, _∙_}
+use mathlib.Core.Bool.{true, not, _&&_}
 use mathlib.Core.List.{List, [], _∷_}
 use native.Mathlib.Numerals.{add-one}
 use native.Mathlib.Omega.{arith}
-use borrow.Author.Tests.{leb-true, eqb-true, eqb-false, eq-eqb, ne-eqb, not-true}
-use lib.Dec.{eqb, leb}
+use borrow.Author.Tests.{eqb-true, eqb-false, not-true}
+use lib.Dec.{eqb}
 use lib.ListN.{length}
-use Rattle.whole.specs.Sums.{sum}
-use Rattle.whole.specs.Search.{within, every}
 use Rattle.whole.proofs.Sums.{sum-grows}
 use Rattle.whole.proofs.Search.{passes-every}
 use Rattle.corridor.specs.declared.Answer.the-variants.{Accepted}
 use Rattle.corridor.specs.Layout.{cells, rowAt, stateLength, countAt}
 use Rattle.corridor.specs.Checks.{answer}
-use Rattle.corridor.specs.Acceptance.{tableLengthFits, tableNumbers, rowsInRange, roomsShared, rampsOnce, stateInRange, bothTablesChecks, stateAloneChecks}
+use Rattle.corridor.specs.Acceptance.{tableLengthFits, tableNumbers, rowsInRange, roomsShared, rampsOnce, stateInRange}
 use Rattle.corridor.proofs.Answers.{accepted-passes, passes-accepted, both-accepted}
-use Rattle.corridor.proofs.Ranges.{both-hold, state-length}
+use Rattle.corridor.proofs.Ranges.{Between, both-hold, cells-fit, state-length}
 use Rattle.corridor.proofs.Accepted.{TableFits, StateFits, table-fits, state-fits}
 use Rattle.recut.specs.declared.Piece.{Piece}
 use Rattle.recut.specs.Pieces.{pieceCount, firstPiece, jamBefore, keepsOnRamp, keepsOffRamp, noOtherRamp, piecesFit, cellIsCut, pieceAt}
-use Rattle.recut.specs.Recut.{piecesNumbers, Cut}
+use Rattle.recut.specs.Recut.{Cut}
 use Rattle.recut.proofs.Walk.{On, on-piece}
 
 -- an old cell and its pieces
@@ -61,7 +59,7 @@ pub record CutFits (old state pieces new : List ℕ) : Type 0 where
   pub new-numbers : answer (tableNumbers new) ≡ Accepted
   pub old-length : tableLengthFits old ≡ true
   pub new-length : tableLengthFits new ≡ true
-  pub new-cells : (1 ≤ cells new) × (cells new ≤ 512)
+  pub new-cells : Between 1 512 (cells new)
   pub state-fits-it : StateFits old state
   pub old-fits : TableFits old
   pub new-fits : TableFits new
@@ -81,14 +79,13 @@ cut-fits old state pieces new (tables, numbers, len, eighth) =
     let ramps′ = accepted-passes _ _ (ramps .1) in
     let olds : answer (tableNumbers old) ≡ Accepted = passes-accepted (rowsInRange old) _ (rows .0) (passes-accepted (roomsShared old) _ (rooms .0) (passes-accepted (rampsOnce old) _ (ramps .0) refl)) in
     let news : answer (tableNumbers new) ≡ Accepted = passes-accepted (rowsInRange new) _ (rows′ .0) (passes-accepted (roomsShared new) _ (rooms′ .0) (passes-accepted (rampsOnce new) _ (ramps′ .0) refl)) in
-    let range = both-hold (leb 1 (cells new)) (leb (cells new) 512) (both-hold (eqb (length new % 9) 0) (within 1 512 (cells new)) (both .1) .1) in
     let counted = accepted-passes _ _ eighth in
     record {
       old-numbers = olds;
       new-numbers = news;
       old-length = both .0;
       new-length = both .1;
-      new-cells = (leb-true 1 (cells new) (range .0), leb-true (cells new) 512 (range .1));
+      new-cells = cells-fit new (both .1);
       state-fits-it = state-fits old state (both-accepted (tableNumbers old) (stateInRange old state ∷ []) olds (accepted-passes _ _ numbers .1));
       old-fits = table-fits old olds;
       new-fits = table-fits new news;

@@ -2,16 +2,15 @@
 -- is accepted under the new table. Assumes nothing.
 use Prim.Native.Nat.{ℕ, zero, suc, _+_, _-_, _*_, _/_, _≤_, _<_, zero-le}
 use mathlib.Core.Path.{_≡_, refl, sym, ap, ap₂, _∙_}
-use mathlib.Core.Bool.{Bool, true, false, _&&_, _||_, false≢true}
+use mathlib.Core.Bool.{Bool, true, false, _&&_, _||_}
 use mathlib.Core.List.{List, [], _∷_, _++_, append-assoc, append-nil}
 use native.Mathlib.Nat.{zero-add}
-use native.Mathlib.Numerals.{add-one}
 use native.Mathlib.Omega.{arith}
 use native.Mathlib.Decide.{ℕ-discrete}
 use borrow.Author.Tests.{le-leb, eq-eqb, ne-eqb, eqb-true}
-use lib.Dec.{eqb, leb}
+use lib.Dec.{eqb}
 use lib.ListN.{length}
-use Rattle.whole.specs.Sums.{sum, atPosition}
+use Rattle.whole.specs.Sums.{sum}
 use Rattle.whole.specs.Search.{pick}
 use Rattle.whole.proofs.Search.{Passes}
 use Rattle.whole.proofs.Sums.{sum-of-equal-terms}
@@ -25,10 +24,10 @@ use Rattle.corridor.proofs.Ranges.{both-hold}
 use Rattle.corridor.proofs.States.{laid-length, laid-entry, laid-count, laid-queue}
 use Rattle.recut.specs.declared.Piece.{Piece}
 use Rattle.recut.specs.Pieces.{pieceCount, firstPiece, jamBefore, pieceAt}
-use Rattle.recut.specs.Recut.{pieceVehicles, newCount, newQueue, newState}
+use Rattle.recut.specs.Recut.{newCount, newQueue, newState}
 use Rattle.recut.proofs.Walk.{On, sums-carry, along-to-the-end}
-use Rattle.recut.proofs.Shares.{share-grows, share-at-most, share-of-all, share-of-none, piece-fits}
-use Rattle.recut.proofs.Facts.{CellCut, CutFits, the-piece, jams-with, jams-fit, vehicles-ask}
+use Rattle.recut.proofs.Shares.{share-grows, share-of-all, share-of-none, piece-fits}
+use Rattle.recut.proofs.Facts.{CellCut, CutFits, the-piece, jams-with, vehicles-ask}
 
 module _ (old state pieces new : List ℕ) (known : CutFits old state pieces new) where
   abbrev some : (i : ℕ) → i < cells old → 0 < pieceCount pieces i

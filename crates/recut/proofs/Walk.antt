@@ -1,18 +1,16 @@
 -- The walk along the new cells, piece after piece: each new cell is one piece of one old cell, and what each piece adds up to, cell by
 -- cell, is what the old cells had. Assumes nothing.
-use Prim.Native.Nat.{ℕ, zero, suc, _+_, _≤_, _<_}
+use Prim.Native.Nat.{ℕ, zero, suc, _+_, _<_}
 use mathlib.Core.Path.{_≡_, refl, sym, ap, _∙_}
 use mathlib.Core.Logic.{_⊎_, inl, inr}
-use mathlib.Core.Bool.{Bool, true, false}
 use mathlib.Core.List.{List}
-use native.Mathlib.Nat.{not-suc-le-zero}
 use native.Mathlib.Numerals.{add-one}
 use native.Mathlib.Omega.{arith}
 use native.Mathlib.Decide.{decLt}
 use borrow.Author.Tests.{lt-ltb, le-ltb}
 use Rattle.whole.specs.Sums.{sum}
 use Rattle.whole.proofs.Sums.{sum-grows}
-use Rattle.corridor.specs.Layout.{cells, rowAt}
+use Rattle.corridor.specs.Layout.{rowAt}
 use Rattle.recut.specs.declared.Piece.{Piece}
 use Rattle.recut.specs.Pieces.{pieceCount, firstPiece, jamBefore, nextPiece, pieceAt}
 

@@ -1,13 +1,13 @@
 -- Document 01, "Re-cut": the pieces of the old cells, which are the new cells in order, and what is asked of them.
-use Prim.Native.Nat.{ℕ, zero, suc, _+_, _-_, _*_, _/_}
+use Prim.Native.Nat.{ℕ, zero, suc, _+_, _-_}
 use mathlib.Core.Bool.{Bool, not, _&&_, _||_}
 use mathlib.Core.List.{List}
 use lib.Dec.{eqb, ltb}
-use lib.ListN.{length, getD}
+use lib.ListN.{getD}
 use Rattle.whole.specs.Sums.{sum}
 use Rattle.whole.specs.Search.{pick, every}
 use Rattle.corridor.specs.declared.Row.{Row}
-use Rattle.corridor.specs.Layout.{cells, rowAt}
+use Rattle.corridor.specs.Layout.{rowAt}
 use Rattle.recut.specs.declared.Piece.{Piece}
 
 -- one piece count for each old cell

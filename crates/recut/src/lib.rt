@@ -1,7 +1,6 @@
 // The re-cut: each old cell becomes consecutive new cells, and its vehicles, its queue and its ramps go on under the new table.
 ghost use mathlib.Core.Path.{_≡_};
-ghost use mathlib.Core.Bool.{true};
-ghost use Prim.Native.Nat.{_+_, _≤_, _<_};
+ghost use Prim.Native.Nat.{_+_, _*_, _/_, _≤_, _<_};
 ghost use lib.ListN.{length};
 ghost use lib.Dec.{eqb};
 ghost use Rattle.whole.specs.Search.{pick};
@@ -23,14 +22,20 @@ pub struct Piece {
     pub before: u64,
 }
 
-// The vehicles of a piece of the given jam count, of a cell that holds n and has jam count whole.
-fn piece_vehicles(n: u32, whole: u32, before: u64, jam: u32) -> u32
-    requires { ⌜ (0 < whole) × (n ≤ whole) × (before + jam ≤ whole) ⌝ }
+// The vehicles of a piece of the given jam count, of a cell that holds n and has jam count whole; its pieces before got the given ones.
+fn piece_vehicles(n: u32, whole: u32, before: u64, jam: u32, given: u32) -> u32
+    requires { ⌜ (0 < whole) × (n ≤ whole) × (before + jam ≤ whole) × (given ≡ n * before / whole) ⌝ }
     ensures { λ r. ⌜ r ≡ pieceVehicles n whole before jam ⌝ }
 {
-    let j = whole as u64;
-    let upto = n as u64 * (before + jam as u64) / j;
-    (upto - n as u64 * before / j) as u32
+    let upto = n as u64 * (before + jam as u64) / (whole as u64);
+    upto as u32 - given
+}
+
+// What the piece of that number gets where a cell's first piece gets one thing and each later one another.
+fn first_or_later(number: usize, first: u32, later: u32) -> u32
+    ensures { λ r. ⌜ r ≡ pick (eqb number 0) first later ⌝ }
+{
+    if number == 0 { first } else { later }
 }
 
 // The vehicles and queues of the old cells, shared out among their pieces.
@@ -46,28 +51,33 @@ fn cut(old: &[u32], state: &[u32], pieces: &[u32], new: &[u32], list: &mut [u32]
         number: 0,
         before: 0,
     };
+    let mut cell = 0;
+    let mut given = 0;
     let mut j = 0;
     while j < m {
-        let cell = piece.cell;
+        let next = j + 1;
         let row = row_at(old, cell);
         let new_row = row_at(new, j);
-        set_count(
+        let vehicles = piece_vehicles(
+            count_at(state, cell),
+            row.jam,
+            piece.before,
+            new_row.jam,
+            given,
+        );
+        set_count(list, j, vehicles);
+        set_queue(
+            m,
             list,
             j,
-            piece_vehicles(count_at(state, cell), row.jam, piece.before, new_row.jam),
+            first_or_later(piece.number, queue_at(n, state, cell), 0),
         );
-        set_queue(m, list, j, queue_of(piece.number, queue_at(n, state, cell)));
         piece = next_piece(pieces, piece, new_row.jam);
-        j += 1;
+        cell = piece.cell;
+        given = first_or_later(piece.number, 0, given + vehicles);
+        j = next;
     }
     set_entry_queue(list, entry_queue(state));
-}
-
-// The on-ramp queue goes to the first piece.
-fn queue_of(number: usize, queue: u32) -> u32
-    ensures { λ r. ⌜ r ≡ pick (eqb number 0) queue 0 ⌝ }
-{
-    if number == 0 { queue } else { 0 }
 }
 
 // Number 8.

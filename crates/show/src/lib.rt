@@ -1,6 +1,4 @@
 // What the programs print: answers and lists of numbers.
-ghost use Prim.Native.Nat.{_≤_};
-ghost use lib.ListN.{length};
 use corridor::Answer;
 
 // Prints an answer and ends the line: accepted, or the refusal's number and place.

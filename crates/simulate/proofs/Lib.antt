@@ -1,7 +1,1 @@
-pub mod FilePieces
-pub mod Writing
-pub mod Turning
-pub mod Finding
-pub mod Texts
-pub mod Demand
-pub mod Simulated
+pub mod Reading

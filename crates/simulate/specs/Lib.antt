@@ -1,5 +1,1 @@
-pub mod Lines
-pub mod Files
-pub mod Turns
-pub mod Program
-pub mod Steps
+pub mod Loops

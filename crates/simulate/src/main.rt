@@ -1,67 +1,20 @@
 // The run program: `cells.csv`, `state.csv` and `demand.csv` of the folder it is run in become the flow sheet on standard
-// output. This file opens files and moves bytes; what is read, what is refused and every byte written is settled by the
-// contracts of the others.
+// output. This file opens files and moves bytes: what is read, what is refused, in which order, and every byte that is
+// written is decided by the functions of `steps`, and what one call answers is handed to the next.
 ghost use mathlib.Core.Path.{_≡_};
-ghost use mathlib.Core.Bool.{true};
-ghost use Prim.Native.Nat.{_+_, _*_, _≤_};
+ghost use Prim.Native.Nat.{_≤_};
 ghost use lib.ListN.{length};
-ghost use Rattle.corridor.specs.Checks.{answer};
-ghost use Rattle.corridor.specs.Acceptance.{stateChecks};
-ghost use Rattle.simulate.specs.Turns.{Ready, Onward, StillReady};
-
-mod files;
-mod lines;
-mod turns;
-
-use corridor::Answer;
-use corridor::layout::cells;
+ghost use Rattle.simulate.specs.Loops.{ChunkFollowed, ReadFollowed, Ended};
+use digits::Written;
+use steps::File;
+use steps::Found;
+use steps::Reading;
+use steps::Run;
+use steps::Stop;
+use steps::demand;
+use steps::files;
+use steps::lines;
 use text::Scan;
-
-// How far the records of a file are read.
-pub enum Reading {
-    // So many records are complete, the next number goes to this index of the list, and the reading stands here.
-    On {
-        records: usize,
-        index: usize,
-        scan: Scan,
-    },
-    // The first record that breaks a rule, counted from 1.
-    Broken(usize),
-}
-
-// A file that is read to its end.
-pub enum File {
-    // So many records.
-    Holds(usize),
-    // The first record that breaks a rule, counted from 1.
-    BrokenAt(usize),
-    // It is missing, or could not be read to its end.
-    Lost,
-}
-
-// A refusal's line.
-pub struct Stop {
-    pub period: usize,
-    pub place: usize,
-    pub number: u32,
-    pub file: u32,
-}
-
-// What a file comes to: the program goes on with so many records, or ends.
-pub enum Found {
-    Go(usize),
-    Halt(Stop),
-}
-
-// What reading on in the demand comes to.
-pub enum Turn {
-    // The chunk is used up: the next one goes on from here, and nothing is written after this position.
-    Part { scan: Scan, at: usize },
-    // The period's lines end at this position, and the chunk goes on at this index.
-    Period { next: usize, at: usize },
-    // The program is over: its last line ends at this position.
-    Over(usize),
-}
 
 // What one read of a file came to.
 enum Got {
@@ -71,11 +24,13 @@ enum Got {
 }
 
 // Where the demand stands after one read of it.
-pub enum Run {
-    // Period k is being tried, the reading stands here, and the output goes on at this position.
-    On { k: usize, scan: Scan, at: usize },
-    // The last line is written.
-    Finished,
+pub enum Next {
+    // Period k is being tried, and the reading stands here.
+    On { k: usize, scan: Scan },
+    // The last line is passed on, or the output is lost.
+    Over,
+    // It can't be read on.
+    Lost,
 }
 
 // A table of 512 cells.
@@ -106,8 +61,8 @@ fn out_space() -> [u8; 131072]
     [0; 131072]
 }
 
-// Passes the output on up to a position. Where it cannot be written, that is said on standard error.
-fn flush(out: &[u8], at: usize) -> bool {
+// Passes the start of the output on. Where it cannot be written, that is said on standard error.
+fn pass_on(out: &[u8], at: usize) -> bool {
     if at <= out.len() {
         let is_written = io::write_all(1, &out[..at]);
         if !is_written {
@@ -118,31 +73,18 @@ fn flush(out: &[u8], at: usize) -> bool {
     false
 }
 
-// Whether the lines of a period of n cells have room after a position.
-fn has_room(size: usize, at: usize, n: usize) -> bool
-    ensures { λ r. ⌜ (r ≡ true → at + 149 * (n + 1) ≤ size) ⌝ }
-{
-    if size < at {
-        return false;
+// Passes a line on.
+fn pass_line(line: Written, out: &[u8]) -> bool {
+    match line {
+        Written::To(end) => pass_on(out, end),
+        Written::NoRoom => false,
     }
-    n < (size - at) / 149
-}
-
-// Where the lines of a period of n cells go: the output is passed on where they might not fit.
-fn make_room(out: &[u8], at: usize, n: usize) -> usize {
-    if has_room(out.len(), at, n) {
-        return at;
-    }
-    if flush(out, at) { 0 } else { out.len() }
 }
 
 // Ends the program with a refusal's line.
-fn halt(stop: Stop, out: &mut [u8], at: usize) {
-    let to = make_room(out, at, 0);
-    if has_room(out.len(), to, 0) {
-        let end = lines::put_stop(stop, out, to);
-        flush(out, end);
-    }
+fn halt(stop: Stop, out: &mut [u8]) {
+    let line = lines::stop_line(stop, out);
+    pass_line(line, out);
 }
 
 // One read of a file of records into a list.
@@ -194,99 +136,75 @@ fn read_file(name: &[u8], fields: usize, list: &mut [u32]) -> File {
     file
 }
 
-// One turn of the demand, with room made for its lines first. Where the output is lost, the run is over.
-fn step(
+// Follows the demand through a chunk of it, and passes the lines of each call on.
+fn follow_chunk(
     chunk: &[u8],
-    from: usize,
-    scan: Scan,
     k: usize,
+    scan: Scan,
     table: &[u32],
     state: &mut [u32],
     row: &mut [u32],
     sheet: &mut [u32],
     out: &mut [u8],
-    at: usize,
-) -> Turn
-    requires { ⌜ Ready (now table) (now state) (now row) (now sheet) ⌝ }
-    ensures { λ _. ⌜ Ready (now (table .entry)) (now (state .exit)) (now (row .exit)) (now (sheet .exit)) ⌝ }
-    ensures { λ r. ⌜ Onward from r ⌝ }
-{
-    let to = make_room(out, at, cells(table));
-    if !has_room(out.len(), to, cells(table)) {
-        return Turn::Over(0);
-    }
-    turns::turn(chunk, from, scan, k, table, state, row, sheet, out, to)
-}
-
-// Follows the demand records of a chunk, a period each.
-fn follow(
-    chunk: &[u8],
-    k: usize,
-    scan: Scan,
-    at: usize,
-    table: &[u32],
-    state: &mut [u32],
-    row: &mut [u32],
-    sheet: &mut [u32],
-    out: &mut [u8],
-) -> Run
-    requires { ⌜ Ready (now table) (now state) (now row) (now sheet) ⌝ }
-    ensures { λ _. ⌜ Ready (now (table .entry)) (now (state .exit)) (now (row .exit)) (now (sheet .exit)) ⌝ }
+) -> Next
+    ensures { λ r. ⌜ ChunkFollowed r (now (table .entry)) k scan (now (row .entry)) (now (state .entry)) (now (sheet .entry)) (now (chunk .entry)) (now (row .exit)) (now (state .exit)) (now (sheet .exit)) ⌝ }
 {
     let mut k = k;
     let mut scan = scan;
-    let mut at = at;
     let mut from = 0;
     while from < chunk.len() {
-        let turn = step(chunk, from, scan, k, table, state, row, sheet, out, at);
-        match turn {
-            Turn::Part { scan: next, at: to } => {
-                return Run::On {
-                    k,
-                    scan: next,
-                    at: to,
-                };
+        let run = demand::follow(&chunk[from..], k, scan, table, state, row, sheet, out);
+        match run {
+            Run::On {
+                read,
+                k: period,
+                scan: next,
+                at,
+            } => {
+                if !pass_on(out, at) {
+                    return Next::Over;
+                }
+                from += read;
+                k = period;
+                scan = next;
             }
-            Turn::Period { next, at: to } => {
-                from = next;
-                at = to;
-                scan = text::begin();
-                k = files::counted(k);
+            Run::Over(at) => {
+                pass_on(out, at);
+                return Next::Over;
             }
-            Turn::Over(to) => {
-                flush(out, to);
-                return Run::Finished;
+            Run::Unfit => {
+                return Next::Lost;
             }
         }
     }
-    Run::On { k, scan, at }
+    Next::On { k, scan }
 }
 
-// The demand ends.
+// The demand ends, and its last lines are passed on.
 fn end_demand(
     k: usize,
     scan: Scan,
-    at: usize,
     table: &[u32],
     state: &mut [u32],
     row: &mut [u32],
     sheet: &mut [u32],
     out: &mut [u8],
-)
-    requires { ⌜ Ready (now table) (now state) (now row) (now sheet) ⌝ }
+) -> Next
+    ensures { λ r. ⌜ Ended r ⌝ }
 {
-    let to = make_room(out, at, cells(table));
-    if has_room(out.len(), to, cells(table)) {
-        let turn = turns::last_turn(scan, k, table, state, row, sheet, out, to);
-        match turn {
-            Turn::Period { next: _, at: end } => {
-                flush(out, end);
-            }
-            Turn::Over(end) => {
-                flush(out, end);
-            }
-            Turn::Part { scan: _, at: _ } => {}
+    let run = demand::end(k, scan, table, state, row, sheet, out);
+    match run {
+        Run::Over(at) => {
+            pass_on(out, at);
+            Next::Over
         }
+        Run::On {
+            read: _,
+            k: _,
+            scan: _,
+            at: _,
+        } => Next::Lost,
+        Run::Unfit => Next::Lost,
     }
 }
 
@@ -295,29 +213,25 @@ fn follow_some(
     fd: i32,
     k: usize,
     scan: Scan,
-    at: usize,
     table: &[u32],
     state: &mut [u32],
     row: &mut [u32],
     sheet: &mut [u32],
     out: &mut [u8],
-) -> Run
-    requires { ⌜ Ready (now table) (now state) (now row) (now sheet) ⌝ }
-    ensures { λ r. ⌜ StillReady r (now (table .entry)) (now (state .exit)) (now (row .exit)) (now (sheet .exit)) ⌝ }
+) -> Next
+    ensures { λ r. ⌜ ReadFollowed r (now (table .entry)) k scan (now (row .entry)) (now (state .entry)) (now (sheet .entry)) (now (row .exit)) (now (state .exit)) (now (sheet .exit)) ⌝ }
 {
     let mut buffer = io::large_buffer();
     let got = libc::read(fd, &mut buffer);
     if got < 0 {
         os::fail(b"demand.csv");
-        halt(files::broken(k, 0, 3), out, at);
-        return Run::Finished;
+        return Next::Lost;
     }
     if got == 0 {
-        end_demand(k, scan, at, table, state, row, sheet, out);
-        return Run::Finished;
+        return end_demand(k, scan, table, state, row, sheet, out);
     }
     let n = io::count(got, &buffer);
-    follow(&buffer[..n], k, scan, at, table, state, row, sheet, out)
+    follow_chunk(&buffer[..n], k, scan, table, state, row, sheet, out)
 }
 
 // Reads the open demand to its end, a period for each record.
@@ -328,46 +242,42 @@ fn run_demand(
     row: &mut [u32],
     sheet: &mut [u32],
     out: &mut [u8],
-    at: usize,
-)
-    requires { ⌜ Ready (now table) (now state) (now row) (now sheet) ⌝ }
-{
+) {
     let mut k = 1;
     let mut scan = text::begin();
-    let mut at = at;
     let mut reads = u64::MAX;
     while 0 < reads {
         reads -= 1;
-        let run = follow_some(fd, k, scan, at, table, state, row, sheet, out);
-        match run {
-            Run::On {
+        let next = follow_some(fd, k, scan, table, state, row, sheet, out);
+        match next {
+            Next::On {
                 k: period,
-                scan: next,
-                at: to,
+                scan: so,
             } => {
                 k = period;
-                scan = next;
-                at = to;
+                scan = so;
             }
-            Run::Finished => {
+            Next::Over => {
                 return;
+            }
+            Next::Lost => {
+                reads = 0;
             }
         }
     }
-    halt(files::broken(k, 0, 3), out, at);
+    halt(files::demand_lost(k), out);
 }
 
-// The demand, under an accepted table and state.
-fn with_state(table: &[u32], state: &mut [u32], out: &mut [u8], at: usize)
-    requires { ⌜ answer (stateChecks (now table) (now state)) ≡ Answer.Accepted ⌝ }
+// The demand, under an accepted table of n cells and an accepted state.
+fn with_state(n: usize, table: &[u32], state: &mut [u32], out: &mut [u8])
+    requires { ⌜ n ≤ 512 ⌝ }
 {
     let fd = os::open_read(b"demand.csv");
     if fd < 0 {
         os::fail(b"demand.csv");
-        halt(files::broken(0, 0, 3), out, at);
+        halt(files::demand_lost(0), out);
         return;
     }
-    let n = cells(table);
     let mut row = row_space();
     let mut sheet = sheet_space();
     run_demand(
@@ -377,13 +287,12 @@ fn with_state(table: &[u32], state: &mut [u32], out: &mut [u8], at: usize)
         &mut row[..2 * n + 1],
         &mut sheet[..4 * n + 1],
         out,
-        at,
     );
     libc::close(fd);
 }
 
 // The state, under a table of n cells.
-fn with_cells(n: usize, table: &[u32], out: &mut [u8], at: usize)
+fn with_cells(n: usize, table: &[u32], out: &mut [u8])
     requires { ⌜ n ≤ 512 ⌝ }
 {
     let mut space = row_space();
@@ -391,20 +300,23 @@ fn with_cells(n: usize, table: &[u32], out: &mut [u8], at: usize)
     let file = read_file(b"state.csv", 2 * n + 1, state);
     let found = files::state_found(file, table, state);
     match found {
-        Found::Go(_) => with_state(table, state, out, at),
-        Found::Halt(stop) => halt(stop, out, at),
+        Found::Go(_) => with_state(n, table, state, out),
+        Found::Halt(stop) => halt(stop, out),
     }
 }
 
-// The cells, then what follows from them.
+// The header, the cells, then what follows from them.
 fn main() {
     let mut table = table_space();
     let mut out = out_space();
-    let at = lines::put_header(&mut out);
+    let header = lines::header(&mut out);
+    if !pass_line(header, &out) {
+        return;
+    }
     let file = read_file(b"cells.csv", 9, &mut table);
     let found = files::cells_found(file);
     match found {
-        Found::Go(n) => with_cells(n, &table[..9 * n], &mut out, at),
-        Found::Halt(stop) => halt(stop, &mut out, at),
+        Found::Go(n) => with_cells(n, &table[..9 * n], &mut out),
+        Found::Halt(stop) => halt(stop, &mut out),
     }
 }

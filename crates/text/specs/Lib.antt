@@ -1,3 +1,4 @@
 pub mod Texts
 pub mod Scans
 pub mod Reads
+pub mod Fields

@@ -1,20 +1,20 @@
 // One field of a record: what a byte does at its start and after its first digit.
 ghost use mathlib.Core.Path.{_≡_};
-ghost use Prim.Native.Nat.{_+_, _<_, _≤_};
+ghost use Prim.Native.Nat.{_+_, _<_};
 ghost use lib.Dec.{ltb, eqb};
 ghost use lib.ListN.{set};
 ghost use Rattle.text.specs.Scans.{isDigit, atStart, longer, inNumber};
 use crate::Scan;
 use crate::Step;
 
-fn is_digit(byte: u8) -> bool
+pub(crate) fn is_digit(byte: u8) -> bool
     ensures { λ r. ⌜ r ≡ isDigit byte ⌝ }
 {
     (b'0' <= byte) & (byte <= b'9')
 }
 
 // Whether a field is followed by another of the record.
-fn followed(field: usize, fields: usize) -> bool
+pub(crate) fn followed(field: usize, fields: usize) -> bool
     ensures { λ r. ⌜ r ≡ ltb (field + 1) fields ⌝ }
 {
     if field < fields {

@@ -6,11 +6,13 @@ ghost use Rattle.text.specs.Scans.{begin, feed, ended};
 ghost use Rattle.text.specs.Reads.{readOn, rowOn, rowAtEnd, held, numbers, fit, stored, one};
 
 mod field;
+mod fields;
 mod whole_text;
 
 use field::at_start;
 use field::in_number;
 use field::put;
+use fields::open_fields;
 use whole_text::check_text;
 use whole_text::fit;
 use whole_text::one;
@@ -79,6 +81,32 @@ pub enum Text {
     TooLong,
 }
 
+// The digits of a field after its first: the index after them, and what all of them make.
+struct Digits {
+    next: usize,
+    value: u32,
+}
+
+// What stands at an index where a field begins.
+enum Begun {
+    // A field and the comma after it: its number, and the index after the comma.
+    Whole { number: u32, next: usize },
+    // Anything else, to be read byte after byte.
+    Other,
+}
+
+// How far the fields of a record are read: so many are complete, and the next begins at this index.
+struct Place {
+    field: usize,
+    at: usize,
+}
+
+// Where the reading stands, and the index of the byte that comes next.
+struct Opened {
+    scan: Scan,
+    at: usize,
+}
+
 // Where a record's reading begins.
 pub fn begin() -> Scan
     ensures { λ r. ⌜ r ≡ begin ⌝ }
@@ -107,9 +135,8 @@ pub fn feed(scan: Scan, byte: u8, fields: usize) -> Step
     }
 }
 
-// Reads on in a chunk from an index, to the end of the record and no further. A record has as many fields as the row
-// has numbers, and each number goes to its field's index.
-pub fn read_record(chunk: &[u8], from: usize, scan: Scan, row: &mut [u32]) -> Read
+// Reads on in a chunk from an index, byte after byte, to the end of the record and no further.
+fn read_bytes(chunk: &[u8], from: usize, scan: Scan, row: &mut [u32]) -> Read
     ensures answer { λ r. ⌜ r ≡ readOn (length (now (row .entry))) from scan (drop from (now (chunk .entry))) ⌝ }
     ensures stores { λ _. ⌜ now (row .exit) ≡ rowOn (length (now (row .entry))) scan (now (row .entry)) (drop from (now (chunk .entry))) ⌝ }
 {
@@ -140,6 +167,17 @@ pub fn read_record(chunk: &[u8], from: usize, scan: Scan, row: &mut [u32]) -> Re
         }
     }
     Read::Part(scan)
+}
+
+// Reads on in a chunk from an index, to the end of the record and no further. A record has as many fields as the row
+// has numbers, and each number goes to its field's index. Fields that stand whole in the chunk are read at once.
+pub fn read_record(chunk: &[u8], from: usize, scan: Scan, row: &mut [u32]) -> Read
+    ensures answer { λ r. ⌜ r ≡ readOn (length (now (row .entry))) from scan (drop from (now (chunk .entry))) ⌝ }
+    ensures stores { λ _. ⌜ now (row .exit) ≡ rowOn (length (now (row .entry))) scan (now (row .entry)) (drop from (now (chunk .entry))) ⌝ }
+{
+    let opened = open_fields(chunk, from, scan, row);
+    let next = opened.scan;
+    read_bytes(chunk, opened.at, next, row)
 }
 
 // The text ends. A record that ends with it is complete, and its last number goes to the row.

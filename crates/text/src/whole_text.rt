@@ -1,10 +1,9 @@
 // A whole text at once: checked first, then stored, so that a refusal has stored nothing.
 ghost use mathlib.Core.Path.{_≡_};
-ghost use lib.ListN.{length};
 ghost use lib.Seq.{sets};
 ghost use Rattle.whole.specs.Search.{pick};
 ghost use Rattle.text.specs.Scans.{untouched, ended};
-ghost use Rattle.text.specs.Reads.{held, numbers, fit, one, endOf};
+ghost use Rattle.text.specs.Reads.{held, numbers, fit, one};
 use crate::End;
 use crate::Scan;
 use crate::Step;

@@ -1,6 +1,6 @@
 -- `calibrate_trials::bits` meets its contract. Assumes nothing.
 use mathlib.Core.Path.{_≡_, sym, _∙_}
-use mathlib.Core.Bool.{true, false, not, true≢false}
+use mathlib.Core.Bool.{false, not, true≢false}
 use borrow.Author.Needs.{needs}
 use lib.Ieee.{Float, nan, inf, fin, ne, isNan}
 use lib.Dec.{T}

@@ -1,131 +1,140 @@
 -- `corridor::both_tables` meets its contract. Assumes nothing.
-use mathlib.Core.Path.{refl}
+use mathlib.Core.List.{[], _∷_}
+use mathlib.Core.Path.{_≡_, sym, _∙_}
+use native.Mathlib.Omega.{arith}
+use Rattle.corridor.specs.declared.Answer.the-variants.{Accepted}
+use Rattle.corridor.specs.Checks.{answer}
+use Rattle.corridor.specs.Acceptance.{rowsInRange, roomsShared, rampsOnce}
+use Rattle.corridor.proofs.Answers.{one-stops, one-passes}
 use borrow.Author.Needs.{needs}
-use Rattle.whole.proofs.Search.{all-pass}
-use Rattle.corridor.proofs.Answers.{stops, passes}
-use Rattle.corridor.proofs.Ramps.{ramps-have-marks}
 use Rattle.corridor.proofs.both_tables.Statement.{statement}
 use Rattle.corridor.proofs.both_tables.Tie as tie
 
-cells-requires : tie.Need-cells-requires
-cells-requires c κs = search needs
+-- each number that is not given, from what told so
+passed-1 : (c : tie.After-enum-told) → Accepted ≡ answer (rowsInRange (c .before .before .before .before .before .args .first .now) ∷ [])
+passed-1 c = sym (c .enum-told .given .1) ∙ c .before .before .one-number .ensures
 
-cells-requires-2 : tie.Need-cells-requires-2
-cells-requires-2 c κs = search needs
+passed-2 : (c : tie.After-enum-told2) → Accepted ≡ answer (rowsInRange (c .before .before .before .before .before .before .before .before .args .second .now) ∷ [])
+passed-2 c = sym (c .enum-told2 .given .1) ∙ c .before .before .one-number2 .ensures
 
-rows-in-range-requires : tie.Need-rows-in-range-requires
-rows-in-range-requires c κs = search needs
+passed-3 : (c : tie.After-enum-told3) → Accepted ≡ answer (roomsShared (c .before .before .before .before .before .before .before .before .before .before .before .args .first .now) ∷ [])
+passed-3 c = sym (c .enum-told3 .given .1) ∙ c .before .before .one-number3 .ensures
 
-add-t12 : tie.Need-add-t12
-add-t12 c = search needs
+passed-4 : (c : tie.After-enum-told4) → Accepted ≡ answer (roomsShared (c .before .before .before .before .before .before .before .before .before .before .before .before .before .before .args .second .now) ∷ [])
+passed-4 c = sym (c .enum-told4 .given .1) ∙ c .before .before .one-number4 .ensures
+
+passed-5 : (c : tie.After-enum-told5) → Accepted ≡ answer (rampsOnce (c .before .before .before .before .before .before .before .before .before .before .before .before .before .before .before .before .before .args .first .now) ∷ [])
+passed-5 c = sym (c .enum-told5 .given .1) ∙ c .before .before .one-number5 .ensures
+
+one-number-requires : tie.Need-one-number-requires
+one-number-requires c κs = (λ e. absurd (omega arith), omega arith, omega arith)
+
+enum-known-rows : tie.Need-enum-known-rows
+enum-known-rows c = search needs
 
 returns : tie.Need-returns
-returns c = stops _ _ (c .before .rows-in-range .ensures) (search needs)
+returns c = one-stops _ _ (sym (c .before .rows .given .1) ∙ c .before .before .before .one-number .ensures)
 
-rows-in-range-requires-2 : tie.Need-rows-in-range-requires-2
-rows-in-range-requires-2 c κs = search needs
+enum-told : tie.Need-enum-told
+enum-told c = search needs
 
-add-t14 : tie.Need-add-t14
-add-t14 c = search needs
+one-number-requires-2 : tie.Need-one-number-requires-2
+one-number-requires-2 c κs = (λ e. absurd (omega arith), omega arith, omega arith)
+
+enum-known-rows-too : tie.Need-enum-known-rows-too
+enum-known-rows-too c = search needs
 
 returns-2 : tie.Need-returns-2
-returns-2 c = passes _ (c .before .before .before .rows-in-range .ensures) (search needs)
-    (stops _ _ (c .before .rows-in-range2 .ensures) (search needs))
+returns-2 c =
+    one-passes _ (passed-1 (c .before .before .before .before))
+    (one-stops _ _ (sym (c .before .rows-too .given .1) ∙ c .before .before .before .one-number2 .ensures))
 
-rooms-shared-requires : tie.Need-rooms-shared-requires
-rooms-shared-requires c κs = search needs
+enum-told-2 : tie.Need-enum-told-2
+enum-told-2 c = search needs
 
-add-t16 : tie.Need-add-t16
-add-t16 c = search needs
+one-number-requires-3 : tie.Need-one-number-requires-3
+one-number-requires-3 c κs = (λ e. absurd (omega arith), omega arith, omega arith)
+
+enum-known-rooms : tie.Need-enum-known-rooms
+enum-known-rooms c = search needs
 
 returns-3 : tie.Need-returns-3
 returns-3 c =
-    passes _ (c .before .before .before .before .before .rows-in-range .ensures) (search needs)
-    (passes _ (c .before .before .before .rows-in-range2 .ensures) (search needs)
-    (stops _ _ (c .before .rooms-shared .ensures) (search needs)))
+    one-passes _ (passed-1 (c .before .before .before .before .before .before .before))
+    (one-passes _ (passed-2 (c .before .before .before .before))
+    (one-stops _ _ (sym (c .before .rooms .given .1) ∙ c .before .before .before .one-number3 .ensures)))
 
-rooms-shared-requires-2 : tie.Need-rooms-shared-requires-2
-rooms-shared-requires-2 c κs = search needs
+enum-told-3 : tie.Need-enum-told-3
+enum-told-3 c = search needs
 
-add-t18 : tie.Need-add-t18
-add-t18 c = search needs
+one-number-requires-4 : tie.Need-one-number-requires-4
+one-number-requires-4 c κs = (λ e. absurd (omega arith), omega arith, omega arith)
+
+enum-known-rooms-too : tie.Need-enum-known-rooms-too
+enum-known-rooms-too c = search needs
 
 returns-4 : tie.Need-returns-4
 returns-4 c =
-    passes _ (c .before .before .before .before .before .before .before .rows-in-range .ensures) (search needs)
-    (passes _ (c .before .before .before .before .before .rows-in-range2 .ensures) (search needs)
-    (passes _ (c .before .before .before .rooms-shared .ensures) (search needs)
-    (stops _ _ (c .before .rooms-shared2 .ensures) (search needs))))
+    one-passes _ (passed-1 (c .before .before .before .before .before .before .before .before .before .before))
+    (one-passes _ (passed-2 (c .before .before .before .before .before .before .before))
+    (one-passes _ (passed-3 (c .before .before .before .before))
+    (one-stops _ _ (sym (c .before .rooms-too .given .1) ∙ c .before .before .before .one-number4 .ensures))))
 
-ramps-once-requires : tie.Need-ramps-once-requires
-ramps-once-requires c κs = ramps-have-marks (c .before .before .before .before .before .before .before .before .before .before .before .before .args .first .now) (all-pass _ _ (c .before .before .before .before .before .before .before .rows-in-range .ensures) (search needs))
+enum-told-4 : tie.Need-enum-told-4
+enum-told-4 c = search needs
 
-mul-if5 : tie.Need-mul-if5
-mul-if5 c = search needs
+one-number-requires-5 : tie.Need-one-number-requires-5
+one-number-requires-5 c κs = (λ _. passed-1 (c .before .before .before .before .before .before .before .before .before), omega arith, omega arith)
 
-add-t22 : tie.Need-add-t22
-add-t22 c = search needs
+enum-known-ramps : tie.Need-enum-known-ramps
+enum-known-ramps c = search needs
 
 returns-5 : tie.Need-returns-5
 returns-5 c =
-    passes _ (c .before .before .before .before .before .before .before .before .before .rows-in-range .ensures) (search needs)
-    (passes _ (c .before .before .before .before .before .before .before .rows-in-range2 .ensures) (search needs)
-    (passes _ (c .before .before .before .before .before .rooms-shared .ensures) (search needs)
-    (passes _ (c .before .before .before .rooms-shared2 .ensures) (search needs)
-    (stops _ _ (c .before .ramps-once .ensures) (search needs)))))
+    one-passes _ (passed-1 (c .before .before .before .before .before .before .before .before .before .before .before .before .before))
+    (one-passes _ (passed-2 (c .before .before .before .before .before .before .before .before .before .before))
+    (one-passes _ (passed-3 (c .before .before .before .before .before .before .before))
+    (one-passes _ (passed-4 (c .before .before .before .before))
+    (one-stops _ _ (sym (c .before .ramps .given .1) ∙ c .before .before .before .one-number5 .ensures)))))
 
-ramps-once-requires-2 : tie.Need-ramps-once-requires-2
-ramps-once-requires-2 c κs = ramps-have-marks (c .before .before .before .before .before .before .before .before .before .before .before .before .before .before .args .second .now) (all-pass _ _ (c .before .before .before .before .before .before .before .rows-in-range2 .ensures) (search needs))
+enum-told-5 : tie.Need-enum-told-5
+enum-told-5 c = search needs
 
-mul-if6 : tie.Need-mul-if6
-mul-if6 c = search needs
-
-add-t25 : tie.Need-add-t25
-add-t25 c = search needs
+one-number-requires-6 : tie.Need-one-number-requires-6
+one-number-requires-6 c κs = (λ _. passed-2 (c .before .before .before .before .before .before .before .before .before), omega arith, omega arith)
 
 returns-6 : tie.Need-returns-6
 returns-6 c =
-    passes _ (c .before .before .before .before .before .before .before .before .before .before .before .rows-in-range .ensures) (search needs)
-    (passes _ (c .before .before .before .before .before .before .before .before .before .rows-in-range2 .ensures) (search needs)
-    (passes _ (c .before .before .before .before .before .before .before .rooms-shared .ensures) (search needs)
-    (passes _ (c .before .before .before .before .before .rooms-shared2 .ensures) (search needs)
-    (passes _ (c .before .before .before .ramps-once .ensures) (search needs)
-    (stops _ _ (c .before .ramps-once2 .ensures) (search needs))))))
-
-returns-7 : tie.Need-returns-7
-returns-7 c =
-    passes _ (c .before .before .before .before .before .before .before .before .before .before .before .rows-in-range .ensures) (search needs)
-    (passes _ (c .before .before .before .before .before .before .before .before .before .rows-in-range2 .ensures) (search needs)
-    (passes _ (c .before .before .before .before .before .before .before .rooms-shared .ensures) (search needs)
-    (passes _ (c .before .before .before .before .before .rooms-shared2 .ensures) (search needs)
-    (passes _ (c .before .before .before .ramps-once .ensures) (search needs)
-    (passes _ (c .before .ramps-once2 .ensures) (search needs)
-    (refl))))))
+    one-passes _ (passed-1 (c .before .before .before .before .before .before .before .before .before .before .before .before .before))
+    (one-passes _ (passed-2 (c .before .before .before .before .before .before .before .before .before .before))
+    (one-passes _ (passed-3 (c .before .before .before .before .before .before .before))
+    (one-passes _ (passed-4 (c .before .before .before .before))
+    (one-passes _ (passed-5 (c .before))
+    (c .one-number6 .ensures)))))
 
 pub both-tables-spec : {M : Type 1} → statement M
 both-tables-spec =
     tie.close
     (tie.spec
-    cells-requires
-    cells-requires-2
-    rows-in-range-requires
-    add-t12
+    one-number-requires
+    enum-known-rows
     returns
-    rows-in-range-requires-2
-    add-t14
+    enum-told
+    one-number-requires-2
+    enum-known-rows-too
     returns-2
-    rooms-shared-requires
-    add-t16
+    enum-told-2
+    one-number-requires-3
+    enum-known-rooms
     returns-3
-    rooms-shared-requires-2
-    add-t18
+    enum-told-3
+    one-number-requires-4
+    enum-known-rooms-too
     returns-4
-    ramps-once-requires
-    mul-if5
-    add-t22
+    enum-told-4
+    one-number-requires-5
+    enum-known-ramps
     returns-5
-    ramps-once-requires-2
-    mul-if6
-    add-t25
-    returns-6
-    returns-7)
+    enum-told-5
+    one-number-requires-6
+    returns-6)

@@ -1,65 +1,68 @@
 -- `corridor::table_numbers` meets its contract. Assumes nothing.
-use mathlib.Core.Path.{refl}
+use mathlib.Core.List.{[], _∷_}
+use mathlib.Core.Path.{_≡_, sym, _∙_}
+use native.Mathlib.Omega.{arith}
+use Rattle.corridor.specs.declared.Answer.the-variants.{Accepted}
+use Rattle.corridor.specs.Checks.{answer}
+use Rattle.corridor.specs.Acceptance.{rowsInRange, roomsShared}
+use Rattle.corridor.proofs.Answers.{one-stops, one-passes}
 use borrow.Author.Needs.{needs}
-use Rattle.whole.proofs.Search.{all-pass}
-use Rattle.corridor.proofs.Answers.{stops, passes}
-use Rattle.corridor.proofs.Ramps.{ramps-have-marks}
 use Rattle.corridor.proofs.table_numbers.Statement.{statement}
 use Rattle.corridor.proofs.table_numbers.Tie as tie
 
-cells-requires : tie.Need-cells-requires
-cells-requires c κs = search needs
+-- each number that is not given, from what told so
+passed-1 : (c : tie.After-enum-told) → Accepted ≡ answer (rowsInRange (c .before .before .before .before .args .table .now) ∷ [])
+passed-1 c = sym (c .enum-told .given .1) ∙ c .before .before .one-number .ensures
 
-rows-in-range-requires : tie.Need-rows-in-range-requires
-rows-in-range-requires c κs = search needs
+passed-2 : (c : tie.After-enum-told2) → Accepted ≡ answer (roomsShared (c .before .before .before .before .before .before .before .args .table .now) ∷ [])
+passed-2 c = sym (c .enum-told2 .given .1) ∙ c .before .before .one-number2 .ensures
 
-add-t7 : tie.Need-add-t7
-add-t7 c = search needs
+one-number-requires : tie.Need-one-number-requires
+one-number-requires c κs = (λ e. absurd (omega arith), omega arith, omega arith)
+
+enum-known-rows : tie.Need-enum-known-rows
+enum-known-rows c = search needs
 
 returns : tie.Need-returns
-returns c = stops _ _ (c .before .rows-in-range .ensures) (search needs)
+returns c = one-stops _ _ (sym (c .before .rows .given .1) ∙ c .before .before .before .one-number .ensures)
 
-rooms-shared-requires : tie.Need-rooms-shared-requires
-rooms-shared-requires c κs = search needs
+enum-told : tie.Need-enum-told
+enum-told c = search needs
 
-add-t9 : tie.Need-add-t9
-add-t9 c = search needs
+one-number-requires-2 : tie.Need-one-number-requires-2
+one-number-requires-2 c κs = (λ e. absurd (omega arith), omega arith, omega arith)
+
+enum-known-rooms : tie.Need-enum-known-rooms
+enum-known-rooms c = search needs
 
 returns-2 : tie.Need-returns-2
-returns-2 c = passes _ (c .before .before .before .rows-in-range .ensures) (search needs) (stops _ _ (c .before .rooms-shared .ensures) (search needs))
+returns-2 c =
+    one-passes _ (passed-1 (c .before .before .before .before))
+    (one-stops _ _ (sym (c .before .rooms .given .1) ∙ c .before .before .before .one-number2 .ensures))
 
-ramps-once-requires : tie.Need-ramps-once-requires
-ramps-once-requires c κs = ramps-have-marks (c .before .before .before .before .before .before .args .table .now) (all-pass _ _ (c .before .before .before .rows-in-range .ensures) (search needs))
+enum-told-2 : tie.Need-enum-told-2
+enum-told-2 c = search needs
 
-mul-if3 : tie.Need-mul-if3
-mul-if3 c = search needs
-
-add-t13 : tie.Need-add-t13
-add-t13 c = search needs
+one-number-requires-3 : tie.Need-one-number-requires-3
+one-number-requires-3 c κs = (λ _. passed-1 (c .before .before .before), omega arith, omega arith)
 
 returns-3 : tie.Need-returns-3
 returns-3 c =
-    passes _ (c .before .before .before .before .before .rows-in-range .ensures) (search needs)
-    (passes _ (c .before .before .before .rooms-shared .ensures) (search needs) (stops _ _ (c .before .ramps-once .ensures) (search needs)))
-
-returns-4 : tie.Need-returns-4
-returns-4 c =
-    passes _ (c .before .before .before .before .before .rows-in-range .ensures) (search needs)
-    (passes _ (c .before .before .before .rooms-shared .ensures) (search needs) (passes _ (c .before .ramps-once .ensures) (search needs) refl))
+    one-passes _ (passed-1 (c .before .before .before .before))
+    (one-passes _ (passed-2 (c .before))
+    (c .one-number3 .ensures))
 
 pub table-numbers-spec : {M : Type 1} → statement M
 table-numbers-spec =
     tie.close
     (tie.spec
-    cells-requires
-    rows-in-range-requires
-    add-t7
+    one-number-requires
+    enum-known-rows
     returns
-    rooms-shared-requires
-    add-t9
+    enum-told
+    one-number-requires-2
+    enum-known-rooms
     returns-2
-    ramps-once-requires
-    mul-if3
-    add-t13
-    returns-3
-    returns-4)
+    enum-told-2
+    one-number-requires-3
+    returns-3)

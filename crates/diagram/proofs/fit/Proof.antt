@@ -1,48 +1,53 @@
 -- `diagram::fit` meets its contract. Assumes nothing.
-use mathlib.Core.List.{[], _∷_}
-use mathlib.Core.Path.{refl, sym, ap, _∙_}
+use mathlib.Core.Path.{refl, ap, _∙_}
+use native.Mathlib.Omega.{arith}
 use borrow.Author.Needs.{needs}
-use Rattle.corridor.proofs.Answers.{refused-stays, accepted-goes-on}
-use Rattle.diagram.proofs.Answers.{lengths-fit, accepted-lengths}
-use Rattle.diagram.specs.Calibration.{sampleChecks, diagramFits, fittedDiagram, fitAs}
+use Rattle.corridor.proofs.Answers.{stops, passes, lengths-fail}
+use Rattle.corridor.proofs.Answers as answers
+use Rattle.diagram.proofs.Answers.{lengths-fit}
+use Rattle.diagram.proofs.Tests.{holds}
+use Rattle.diagram.specs.Calibration.{fittedDiagram, fitAs}
 use Rattle.diagram.proofs.fit.Statement.{statement}
 use Rattle.diagram.proofs.fit.Tie as tie
 
-accept-samples-requires : tie.Need-accept-samples-requires
-accept-samples-requires c κs = search needs
-
-enum-known-found : tie.Need-enum-known-found
-enum-known-found c = search needs
+lengths-fit-requires : tie.Need-lengths-fit-requires
+lengths-fit-requires c κs = search needs
 
 returns : tie.Need-returns
-returns c = let lists = c .before .before .before .before .before .before .args in
-    let first = sampleChecks (lists .settings) (lists .flow .now) (lists .occupancy .now) in
-    ap (λ a. fitAs a (fittedDiagram (lists .settings) (lists .flow .now) (lists .occupancy .now)))
-    (refused-stays first (diagramFits (lists .settings) (lists .flow .now) (lists .occupancy .now) ∷ []) (sym (c .before .found .given .1) ∙ (c .before .before .before .accept-samples .ensures)))
+returns c = let lists = c .before .before .before .before .args in
+    ap (λ a. fitAs a (fittedDiagram (lists .settings) (lists .flow .now) (lists .occupancy .now))) (lengths-fail _ (c .before .lengths-fit .ensures) (c .if1 .taken))
 
-enum-told : tie.Need-enum-told
-enum-told c = search needs
-
-fit-samples-requires : tie.Need-fit-samples-requires
-fit-samples-requires c κs = let lists = c .before .before .before .before .before .args in
-    let fit = lengths-fit (lists .settings) (lists .flow .now) (lists .occupancy .now) (accepted-lengths _ _ (sym (c .enum-told .given .1) ∙ (c .before .before .accept-samples .ensures))) in
-    (fit .equal, fit .within)
+samples-usable-requires : tie.Need-samples-usable-requires
+samples-usable-requires c κs = let lists = c .before .before .before .before .args in
+    let fit = lengths-fit (lists .settings) (lists .flow .now) (lists .occupancy .now) (holds (c .before .lengths-fit .ensures) (c .if1 .left)) in
+    (fit .equal, omega (arith, fit .few))
 
 returns-2 : tie.Need-returns-2
-returns-2 c = let lists = c .before .before .before .before .before .before .args in
-    let first = sampleChecks (lists .settings) (lists .flow .now) (lists .occupancy .now) in
-    let later = diagramFits (lists .settings) (lists .flow .now) (lists .occupancy .now) ∷ [] in
+returns-2 c = let seen = c .before .before in
+    let lists = seen .before .before .before .before .before .args in
+    ap (λ a. fitAs a (fittedDiagram (lists .settings) (lists .flow .now) (lists .occupancy .now)))
+    (answers.lengths-fit (seen .before .before .lengths-fit .ensures) (seen .before .if1 .left) (stops _ _ (seen .samples-usable .ensures .0) (search needs)))
+
+fit-samples-requires : tie.Need-fit-samples-requires
+fit-samples-requires c κs = let seen = c .before .before in
+    let lists = seen .before .before .before .before .before .args in
+    let fit = lengths-fit (lists .settings) (lists .flow .now) (lists .occupancy .now) (holds (seen .before .before .lengths-fit .ensures) (seen .before .if1 .left)) in
+    (fit .equal, (fit .within, seen .samples-usable .ensures .1 (search needs)))
+
+returns-3 : tie.Need-returns-3
+returns-3 c = let seen = c .before .before .before in
+    let lists = seen .before .before .before .before .before .args in
     c .fit-samples .ensures
     ∙ ap (λ a. fitAs a (fittedDiagram (lists .settings) (lists .flow .now) (lists .occupancy .now)))
-    (accepted-goes-on first later (sym (c .before .enum-told .given .1) ∙ (c .before .before .before .accept-samples .ensures)) refl)
+    (answers.lengths-fit (seen .before .before .lengths-fit .ensures) (seen .before .if1 .left) (passes _ (seen .samples-usable .ensures .0) (search needs) refl))
 
 pub fit-spec : {M : Type 1} → statement M
 fit-spec =
     tie.close
     (tie.spec
-    accept-samples-requires
-    enum-known-found
+    lengths-fit-requires
     returns
-    enum-told
+    samples-usable-requires
+    returns-2
     fit-samples-requires
-    returns-2)
+    returns-3)

@@ -16,22 +16,15 @@ mul-upto c = record { fits = product-fits _ _ (omega arith) (omega arith) }
 div-upto : tie.Need-div-upto
 div-upto c = search needs
 
-mul-result : tie.Need-mul-result
-mul-result c = record { fits = product-fits _ _ (omega arith) (omega arith) }
-
-div-result : tie.Need-div-result
-div-result c = search needs
-
-sub-result : tie.Need-sub-result
-sub-result c = share-grows (c .args .n) (c .args .whole) (c .args .before) (c .args .before + c .args .jam) (c .pre .0) (omega arith)
-
 cast-result : tie.Need-cast-result
 cast-result c = omega (arith, share-at-most (c .args .n) (c .args .whole) (c .args .before + c .args .jam) (c .pre .0) (omega arith))
+
+sub-result : tie.Need-sub-result
+sub-result c = omega (arith, share-grows (c .args .n) (c .args .whole) (c .args .before) (c .args .before + c .args .jam) (c .pre .0) (omega arith))
 
 returns : tie.Need-returns
 returns c = search needs
 
 pub piece-vehicles-spec : {M : Type 1} → statement M
 piece-vehicles-spec =
-    tie.close
-    (tie.spec add-upto mul-upto div-upto mul-result div-result sub-result cast-result returns)
+    tie.close (tie.spec add-upto mul-upto div-upto cast-result sub-result returns)

@@ -1,10 +1,28 @@
 -- `recut::recut` meets its contract. Assumes nothing.
-use mathlib.Core.Path.{sym, _∙_}
+use mathlib.Core.Path.{_≡_, sym, _∙_}
+use mathlib.Core.Bool.{true}
 use borrow.Author.Tests.{not-true, not-false}
 use borrow.Author.Needs.{needs}
+use Rattle.corridor.specs.declared.Answer.the-variants.{Accepted}
+use Rattle.corridor.specs.Checks.{answer}
+use Rattle.corridor.specs.Acceptance.{bothTablesChecks, stateAloneChecks}
+use Rattle.recut.specs.Recut.{recutListsFit, piecesNumbers}
 use Rattle.recut.proofs.Done.{lists-refused, tables-refused, state-refused, pieces-refused, pieces-ask, counts-length, list-length, cut-done}
 use Rattle.recut.proofs.recut.Statement.{statement}
 use Rattle.recut.proofs.recut.Tie as tie
+
+-- what each test that was passed says
+fit : (c : tie.Else1) → let lists = c .before .before .before .before .before .before .before .before .args in recutListsFit (lists .old .now) (lists .state .now) (lists .pieces .now) (lists .new .now) (lists .list .now) ≡ true
+fit c = sym (c .before .recut-lists-fit .ensures) ∙ not-false _ (c .if1 .left)
+
+tables-told : (c : tie.After-enum-told) → let lists = c .before .before .before .before .before .before .before .before .before .before .before .args in Accepted ≡ answer (bothTablesChecks (lists .old .now) (lists .new .now))
+tables-told c = sym (c .enum-told .given .1) ∙ c .before .before .accept-tables .ensures
+
+numbers-told : (c : tie.After-enum-told2) → let lists = c .before .before .before .before .before .before .before .before .before .before .before .before .before .before .args in Accepted ≡ answer (stateAloneChecks (lists .old .now) (lists .state .now))
+numbers-told c = sym (c .enum-told2 .given .1) ∙ c .before .before .accept-state-alone .ensures
+
+pieces-told : (c : tie.After-enum-told3) → let lists = c .before .before .before .before .before .before .before .before .before .before .before .before .before .before .before .before .before .args in Accepted ≡ answer (piecesNumbers (lists .old .now) (lists .pieces .now) (lists .new .now))
+pieces-told c = sym (c .enum-told3 .given .1) ∙ c .before .before .pieces-numbers .ensures
 
 recut-lists-fit-requires : tie.Need-recut-lists-fit-requires
 recut-lists-fit-requires c κs = search needs
@@ -13,7 +31,9 @@ same-length : tie.Need-same-length
 same-length c = search needs
 
 returns : tie.Need-returns
-returns c = lists-refused (c .before .before .before .before .before .before .before .before .args .old .now) (c .before .before .before .before .before .before .before .before .args .state .now) (c .before .before .before .before .before .before .before .before .args .pieces .now) (c .before .before .before .before .before .before .before .before .args .new .now) (c .before .before .before .before .before .before .before .before .args .list .now) (sym (c .before .recut-lists-fit .ensures) ∙ not-true _ (c .if1 .taken))
+returns c =
+    let lists = c .before .before .before .before .before .before .before .before .args in
+    lists-refused (lists .old .now) (lists .state .now) (lists .pieces .now) (lists .new .now) (lists .list .now) (sym (c .before .recut-lists-fit .ensures) ∙ not-true _ (c .if1 .taken))
 
 accept-tables-requires : tie.Need-accept-tables-requires
 accept-tables-requires c κs = search needs
@@ -25,7 +45,9 @@ same-length-2 : tie.Need-same-length-2
 same-length-2 c = search needs
 
 returns-2 : tie.Need-returns-2
-returns-2 c = tables-refused (c .before .before .before .before .before .before .before .before .before .before .before .before .args .old .now) (c .before .before .before .before .before .before .before .before .before .before .before .before .args .state .now) (c .before .before .before .before .before .before .before .before .before .before .before .before .args .pieces .now) (c .before .before .before .before .before .before .before .before .before .before .before .before .args .new .now) (c .before .before .before .before .before .before .before .before .before .before .before .before .args .list .now) (sym (c .before .before .before .before .before .recut-lists-fit .ensures) ∙ not-false _ (c .before .before .before .before .if1 .left)) (sym (c .before .tables .given .1) ∙ c .before .before .before .accept-tables .ensures)
+returns-2 c =
+    let lists = c .before .before .before .before .before .before .before .before .before .before .before .before .args in
+    tables-refused (lists .old .now) (lists .state .now) (lists .pieces .now) (lists .new .now) (lists .list .now) (fit (c .before .before .before .before)) (sym (c .before .tables .given .1) ∙ c .before .before .before .accept-tables .ensures)
 
 enum-told : tie.Need-enum-told
 enum-told c = search needs
@@ -40,13 +62,17 @@ same-length-3 : tie.Need-same-length-3
 same-length-3 c = search needs
 
 returns-3 : tie.Need-returns-3
-returns-3 c = state-refused (c .before .before .before .before .before .before .before .before .before .before .before .before .before .before .before .args .old .now) (c .before .before .before .before .before .before .before .before .before .before .before .before .before .before .before .args .state .now) (c .before .before .before .before .before .before .before .before .before .before .before .before .before .before .before .args .pieces .now) (c .before .before .before .before .before .before .before .before .before .before .before .before .before .before .before .args .new .now) (c .before .before .before .before .before .before .before .before .before .before .before .before .before .before .before .args .list .now) (sym (c .before .before .before .before .before .before .before .before .recut-lists-fit .ensures) ∙ not-false _ (c .before .before .before .before .before .before .before .if1 .left)) (sym (c .before .before .before .before .enum-told .given .1) ∙ c .before .before .before .before .before .before .accept-tables .ensures) (sym (c .before .numbers .given .1) ∙ c .before .before .before .accept-state-alone .ensures)
+returns-3 c =
+    let lists = c .before .before .before .before .before .before .before .before .before .before .before .before .before .before .before .args in
+    state-refused (lists .old .now) (lists .state .now) (lists .pieces .now) (lists .new .now) (lists .list .now) (fit (c .before .before .before .before .before .before .before)) (tables-told (c .before .before .before .before)) (sym (c .before .numbers .given .1) ∙ c .before .before .before .accept-state-alone .ensures)
 
 enum-told-2 : tie.Need-enum-told-2
 enum-told-2 c = search needs
 
 pieces-numbers-requires : tie.Need-pieces-numbers-requires
-pieces-numbers-requires c κs = pieces-ask (c .before .before .before .before .before .before .before .before .before .before .before .before .before .before .args .old .now) (c .before .before .before .before .before .before .before .before .before .before .before .before .before .before .args .state .now) (c .before .before .before .before .before .before .before .before .before .before .before .before .before .before .args .pieces .now) (c .before .before .before .before .before .before .before .before .before .before .before .before .before .before .args .new .now) (c .before .before .before .before .before .before .before .before .before .before .before .before .before .before .args .list .now) (sym (c .before .before .before .before .before .before .before .recut-lists-fit .ensures) ∙ not-false _ (c .before .before .before .before .before .before .if1 .left)) (sym (c .before .before .before .enum-told .given .1) ∙ c .before .before .before .before .before .accept-tables .ensures)
+pieces-numbers-requires c κs =
+    let lists = c .before .before .before .before .before .before .before .before .before .before .before .before .before .before .args in
+    pieces-ask (lists .old .now) (lists .state .now) (lists .pieces .now) (lists .new .now) (lists .list .now) (fit (c .before .before .before .before .before .before)) (tables-told (c .before .before .before))
 
 enum-known-eighth : tie.Need-enum-known-eighth
 enum-known-eighth c = search needs
@@ -55,19 +81,25 @@ same-length-4 : tie.Need-same-length-4
 same-length-4 c = search needs
 
 returns-4 : tie.Need-returns-4
-returns-4 c = pieces-refused (c .before .before .before .before .before .before .before .before .before .before .before .before .before .before .before .before .before .before .args .old .now) (c .before .before .before .before .before .before .before .before .before .before .before .before .before .before .before .before .before .before .args .state .now) (c .before .before .before .before .before .before .before .before .before .before .before .before .before .before .before .before .before .before .args .pieces .now) (c .before .before .before .before .before .before .before .before .before .before .before .before .before .before .before .before .before .before .args .new .now) (c .before .before .before .before .before .before .before .before .before .before .before .before .before .before .before .before .before .before .args .list .now) (sym (c .before .before .before .before .before .before .before .before .before .before .before .recut-lists-fit .ensures) ∙ not-false _ (c .before .before .before .before .before .before .before .before .before .before .if1 .left)) (sym (c .before .before .before .before .before .before .before .enum-told .given .1) ∙ c .before .before .before .before .before .before .before .before .before .accept-tables .ensures) (sym (c .before .before .before .before .enum-told2 .given .1) ∙ c .before .before .before .before .before .before .accept-state-alone .ensures) (sym (c .before .eighth .given .1) ∙ c .before .before .before .pieces-numbers .ensures)
+returns-4 c =
+    let lists = c .before .before .before .before .before .before .before .before .before .before .before .before .before .before .before .before .before .before .args in
+    pieces-refused (lists .old .now) (lists .state .now) (lists .pieces .now) (lists .new .now) (lists .list .now) (fit (c .before .before .before .before .before .before .before .before .before .before)) (tables-told (c .before .before .before .before .before .before .before)) (numbers-told (c .before .before .before .before)) (sym (c .before .eighth .given .1) ∙ c .before .before .before .pieces-numbers .ensures)
 
 enum-told-3 : tie.Need-enum-told-3
 enum-told-3 c = search needs
 
 cut-requires : tie.Need-cut-requires
-cut-requires c κs = ((sym (sym (c .before .before .before .before .before .before .before .enum-told .given .1) ∙ c .before .before .before .before .before .before .before .before .before .accept-tables .ensures), sym (sym (c .before .before .before .before .enum-told2 .given .1) ∙ c .before .before .before .before .before .before .accept-state-alone .ensures), counts-length (c .before .before .before .before .before .before .before .before .before .before .before .before .before .before .before .before .before .before .args .old .now) (c .before .before .before .before .before .before .before .before .before .before .before .before .before .before .before .before .before .before .args .state .now) (c .before .before .before .before .before .before .before .before .before .before .before .before .before .before .before .before .before .before .args .pieces .now) (c .before .before .before .before .before .before .before .before .before .before .before .before .before .before .before .before .before .before .args .new .now) (c .before .before .before .before .before .before .before .before .before .before .before .before .before .before .before .before .before .before .args .list .now) (sym (c .before .before .before .before .before .before .before .before .before .before .before .recut-lists-fit .ensures) ∙ not-false _ (c .before .before .before .before .before .before .before .before .before .before .if1 .left)), sym (sym (c .before .enum-told3 .given .1) ∙ c .before .before .before .pieces-numbers .ensures)), list-length (c .before .before .before .before .before .before .before .before .before .before .before .before .before .before .before .before .before .before .args .old .now) (c .before .before .before .before .before .before .before .before .before .before .before .before .before .before .before .before .before .before .args .state .now) (c .before .before .before .before .before .before .before .before .before .before .before .before .before .before .before .before .before .before .args .pieces .now) (c .before .before .before .before .before .before .before .before .before .before .before .before .before .before .before .before .before .before .args .new .now) (c .before .before .before .before .before .before .before .before .before .before .before .before .before .before .before .before .before .before .args .list .now) (sym (c .before .before .before .before .before .before .before .before .before .before .before .recut-lists-fit .ensures) ∙ not-false _ (c .before .before .before .before .before .before .before .before .before .before .if1 .left)))
+cut-requires c κs =
+    let lists = c .before .before .before .before .before .before .before .before .before .before .before .before .before .before .before .before .before .before .args in
+    ((sym (tables-told (c .before .before .before .before .before .before .before)), sym (numbers-told (c .before .before .before .before)), counts-length (lists .old .now) (lists .state .now) (lists .pieces .now) (lists .new .now) (lists .list .now) (fit (c .before .before .before .before .before .before .before .before .before .before)), sym (pieces-told (c .before))), list-length (lists .old .now) (lists .state .now) (lists .pieces .now) (lists .new .now) (lists .list .now) (fit (c .before .before .before .before .before .before .before .before .before .before)))
 
 same-length-5 : tie.Need-same-length-5
 same-length-5 c = search needs
 
 returns-5 : tie.Need-returns-5
-returns-5 c = cut-done (c .before .before .before .before .before .before .before .before .before .before .before .before .before .before .before .before .before .before .before .before .before .args .old .now) (c .before .before .before .before .before .before .before .before .before .before .before .before .before .before .before .before .before .before .before .before .before .args .state .now) (c .before .before .before .before .before .before .before .before .before .before .before .before .before .before .before .before .before .before .before .before .before .args .pieces .now) (c .before .before .before .before .before .before .before .before .before .before .before .before .before .before .before .before .before .before .before .before .before .args .new .now) (c .before .before .before .before .before .before .before .before .before .before .before .before .before .before .before .before .before .before .before .before .before .args .list .now) (sym (c .before .before .before .before .before .before .before .before .before .before .before .before .before .before .recut-lists-fit .ensures) ∙ not-false _ (c .before .before .before .before .before .before .before .before .before .before .before .before .before .if1 .left)) (sym (c .before .before .before .before .before .before .before .before .before .before .enum-told .given .1) ∙ c .before .before .before .before .before .before .before .before .before .before .before .before .accept-tables .ensures) (sym (c .before .before .before .before .before .before .before .enum-told2 .given .1) ∙ c .before .before .before .before .before .before .before .before .before .accept-state-alone .ensures) (sym (c .before .before .before .before .enum-told3 .given .1) ∙ c .before .before .before .before .before .before .pieces-numbers .ensures) (c .before .before .cut .ensures)
+returns-5 c =
+    let lists = c .before .before .before .before .before .before .before .before .before .before .before .before .before .before .before .before .before .before .before .before .before .args in
+    cut-done (lists .old .now) (lists .state .now) (lists .pieces .now) (lists .new .now) (lists .list .now) (fit (c .before .before .before .before .before .before .before .before .before .before .before .before .before)) (tables-told (c .before .before .before .before .before .before .before .before .before .before)) (numbers-told (c .before .before .before .before .before .before .before)) (pieces-told (c .before .before .before .before)) (c .before .before .cut .ensures)
 
 pub recut-spec : {M : Type 1} → statement M
 recut-spec =

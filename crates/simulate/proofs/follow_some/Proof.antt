@@ -1,6 +1,6 @@
 -- `simulate::follow_some` meets its contract. Assumes nothing.
 use borrow.Author.Needs.{needs}
-use Rattle.simulate.proofs.Turning.{still-ready}
+use Rattle.simulate.proofs.Reading.{chunk-read, end-read}
 use Rattle.simulate.proofs.follow_some.Statement.{statement}
 use Rattle.simulate.proofs.follow_some.Tie as tie
 
@@ -19,20 +19,14 @@ slice-aggregate-fail c = search needs
 fail-requires : tie.Need-fail-requires
 fail-requires c κs = search needs
 
-broken-requires : tie.Need-broken-requires
-broken-requires c κs = search needs
-
-halt-requires : tie.Need-halt-requires
-halt-requires c κs = search needs
-
-same-length : tie.Need-same-length
-same-length c = search needs
-
 returns : tie.Need-returns
 returns c = search needs
 
 end-demand-requires : tie.Need-end-demand-requires
 end-demand-requires c κs = search needs
+
+same-length : tie.Need-same-length
+same-length c = search needs
 
 same-length-2 : tie.Need-same-length-2
 same-length-2 c = search needs
@@ -43,11 +37,8 @@ same-length-3 c = search needs
 same-length-4 : tie.Need-same-length-4
 same-length-4 c = search needs
 
-same-length-5 : tie.Need-same-length-5
-same-length-5 c = search needs
-
 returns-2 : tie.Need-returns-2
-returns-2 c = search needs
+returns-2 c = end-read _ _ _ _ _ _ _ _ _ (c .before .before .before .before .before .before .before .before .end-demand .result) (c .before .before .before .before .before .before .before .before .end-demand .ensures)
 
 slice-aggregate-count : tie.Need-slice-aggregate-count
 slice-aggregate-count c = search needs
@@ -58,11 +49,14 @@ count-requires c κs = search needs
 array-share-prefix-buffer : tie.Need-array-share-prefix-buffer
 array-share-prefix-buffer c = search needs
 
-slice-aggregate-follow : tie.Need-slice-aggregate-follow
-slice-aggregate-follow c = search needs
+slice-aggregate-follow-chunk : tie.Need-slice-aggregate-follow-chunk
+slice-aggregate-follow-chunk c = search needs
 
-follow-requires : tie.Need-follow-requires
-follow-requires c κs = search needs
+follow-chunk-requires : tie.Need-follow-chunk-requires
+follow-chunk-requires c κs = search needs
+
+same-length-5 : tie.Need-same-length-5
+same-length-5 c = search needs
 
 same-length-6 : tie.Need-same-length-6
 same-length-6 c = search needs
@@ -73,11 +67,8 @@ same-length-7 c = search needs
 same-length-8 : tie.Need-same-length-8
 same-length-8 c = search needs
 
-same-length-9 : tie.Need-same-length-9
-same-length-9 c = search needs
-
 returns-3 : tie.Need-returns-3
-returns-3 c = still-ready (c .before .before .before .before .before .before .before .before .follow .result) (c .before .before .before .before .before .before .before .before .follow .ensures)
+returns-3 c = chunk-read _ _ _ _ _ _ _ _ _ (c .before .before .before .before .before .before .before .before .follow-chunk .result) _ (c .before .before .before .before .before .before .before .before .follow-chunk .ensures)
 
 pub follow-some-spec : {M : Type 1} → statement M
 follow-some-spec =
@@ -88,23 +79,20 @@ follow-some-spec =
     read-requires
     slice-aggregate-fail
     fail-requires
-    broken-requires
-    halt-requires
-    same-length
     returns
     end-demand-requires
+    same-length
     same-length-2
     same-length-3
     same-length-4
-    same-length-5
     returns-2
     slice-aggregate-count
     count-requires
     array-share-prefix-buffer
-    slice-aggregate-follow
-    follow-requires
+    slice-aggregate-follow-chunk
+    follow-chunk-requires
+    same-length-5
     same-length-6
     same-length-7
     same-length-8
-    same-length-9
     returns-3)

@@ -1,10 +1,10 @@
 -- `simulate::main` meets its contract. Assumes nothing.
-use borrow.Author.Needs.{needs}
 use Prim.Native.Nat.{_*_}
 use mathlib.Core.Path.{sym, _∙_}
 use native.Mathlib.Omega.{arith}
 use lib.Seq.{length-take-le}
-use Rattle.simulate.proofs.Finding.{cells-told}
+use Rattle.steps.proofs.Finding.{cells-told}
+use borrow.Author.Needs.{needs}
 use Rattle.simulate.proofs.main.Statement.{statement}
 use Rattle.simulate.proofs.main.Tie as tie
 
@@ -14,11 +14,20 @@ table-space-requires c κs = search needs
 out-space-requires : tie.Need-out-space-requires
 out-space-requires c κs = search needs
 
-slice-aggregate-put-header : tie.Need-slice-aggregate-put-header
-slice-aggregate-put-header c = search needs
+slice-aggregate-header : tie.Need-slice-aggregate-header
+slice-aggregate-header c = search needs
 
-put-header-requires : tie.Need-put-header-requires
-put-header-requires c κs = search needs
+header-requires : tie.Need-header-requires
+header-requires c κs = search needs
+
+slice-aggregate-pass-line : tie.Need-slice-aggregate-pass-line
+slice-aggregate-pass-line c = search needs
+
+pass-line-requires : tie.Need-pass-line-requires
+pass-line-requires c κs = search needs
+
+returns : tie.Need-returns
+returns c = search needs
 
 slice-aggregate-read-file : tie.Need-slice-aggregate-read-file
 slice-aggregate-read-file c = search needs
@@ -59,11 +68,11 @@ slice-aggregate-halt c = search needs
 halt-requires : tie.Need-halt-requires
 halt-requires c κs = search needs
 
-returns : tie.Need-returns
-returns c = search needs
-
 returns-2 : tie.Need-returns-2
 returns-2 c = search needs
+
+returns-3 : tie.Need-returns-3
+returns-3 c = search needs
 
 pub main-spec : {M : Type 1} → statement M
 main-spec =
@@ -71,8 +80,11 @@ main-spec =
     (tie.spec
     table-space-requires
     out-space-requires
-    slice-aggregate-put-header
-    put-header-requires
+    slice-aggregate-header
+    header-requires
+    slice-aggregate-pass-line
+    pass-line-requires
+    returns
     slice-aggregate-read-file
     slice-aggregate-read-file-2
     read-file-requires
@@ -86,5 +98,5 @@ main-spec =
     enum-known-found-2
     slice-aggregate-halt
     halt-requires
-    returns
-    returns-2)
+    returns-2
+    returns-3)

@@ -3,36 +3,36 @@ use mathlib.Core.Path.{_≡_, refl}
 use native.Mathlib.Omega.{arith}
 use borrow.Author.Needs.{needs}
 use lib.ListN.{length}
-use Rattle.simulate.specs.Turns.{Ready}
 use Rattle.simulate.proofs.run_demand.Statement.{statement}
 use Rattle.simulate.proofs.run_demand.Tie as tie
 
 abbrev Inv-loop : tie.InvT-loop
-Inv-loop fd table state₀ row₀ sheet₀ out₀ at k₀ scan₀ at₀ reads₀ state row sheet out k scan at' reads = Ready table state row sheet × (length state ≡ length state₀) × (length row ≡ length row₀) × (length sheet ≡ length sheet₀) × (length out ≡ length out₀)
+Inv-loop fd table state₀ row₀ sheet₀ out₀ k₀ scan₀ reads₀ state row sheet out k scan reads =
+    (length state ≡ length state₀) × (length row ≡ length row₀) × (length sheet ≡ length sheet₀) × (length out ≡ length out₀)
 
 abbrev μ-loop : tie.MeasureT-loop
-μ-loop fd table state₀ row₀ sheet₀ out₀ at k₀ scan₀ at₀ reads₀ state row sheet out k scan at' reads = reads
+μ-loop fd table state₀ row₀ sheet₀ out₀ k₀ scan₀ reads₀ state row sheet out k scan reads = reads
 
 begin-requires : tie.Need-begin-requires Inv-loop μ-loop
 begin-requires c κs = search needs
 
 loop-holds : tie.Need-loop-holds Inv-loop μ-loop
-loop-holds c = (c .before .before .before .before .before .before .pre, refl, refl, refl, refl)
+loop-holds c = (refl, refl, refl, refl)
 
 sub-reads : tie.Need-sub-reads Inv-loop μ-loop
-sub-reads c = omega arith
+sub-reads c = search needs
 
 follow-some-requires : tie.Need-follow-some-requires Inv-loop μ-loop
-follow-some-requires c κs = c .before .before .before .before .before .loop .inv .0
+follow-some-requires c κs = search needs
 
-enum-known-run : tie.Need-enum-known-run Inv-loop μ-loop
-enum-known-run c = search needs
+enum-known-next : tie.Need-enum-known-next Inv-loop μ-loop
+enum-known-next c = search needs
 
 loop-less : tie.Need-loop-less Inv-loop μ-loop
 loop-less c = omega arith
 
 loop-again : tie.Need-loop-again Inv-loop μ-loop
-loop-again c = (rw (c .before .run .given .1) at (c .before .before .before .before .before .before .before .before .before .before .before .follow-some .ensures), omega arith, omega arith, omega arith, omega arith)
+loop-again c = (omega arith, omega arith, omega arith, omega arith)
 
 enum-told : tie.Need-enum-told Inv-loop μ-loop
 enum-told c = search needs
@@ -50,10 +50,19 @@ same-length-4 : tie.Need-same-length-4 Inv-loop μ-loop
 same-length-4 c = omega arith
 
 returns : tie.Need-returns Inv-loop μ-loop
-returns c = tt
+returns c = search needs
 
-broken-requires : tie.Need-broken-requires Inv-loop μ-loop
-broken-requires c κs = search needs
+enum-told-2 : tie.Need-enum-told-2 Inv-loop μ-loop
+enum-told-2 c = search needs
+
+loop-less-2 : tie.Need-loop-less-2 Inv-loop μ-loop
+loop-less-2 c = omega arith
+
+loop-again-2 : tie.Need-loop-again-2 Inv-loop μ-loop
+loop-again-2 c = (omega arith, omega arith, omega arith, omega arith)
+
+demand-lost-requires : tie.Need-demand-lost-requires Inv-loop μ-loop
+demand-lost-requires c κs = search needs
 
 halt-requires : tie.Need-halt-requires Inv-loop μ-loop
 halt-requires c κs = search needs
@@ -71,7 +80,7 @@ same-length-8 : tie.Need-same-length-8 Inv-loop μ-loop
 same-length-8 c = omega arith
 
 returns-2 : tie.Need-returns-2 Inv-loop μ-loop
-returns-2 c = tt
+returns-2 c = search needs
 
 pub run-demand-spec : {M : Type 1} → statement M
 run-demand-spec =
@@ -83,7 +92,7 @@ run-demand-spec =
     loop-holds
     sub-reads
     follow-some-requires
-    enum-known-run
+    enum-known-next
     loop-less
     loop-again
     enum-told
@@ -92,7 +101,10 @@ run-demand-spec =
     same-length-3
     same-length-4
     returns
-    broken-requires
+    enum-told-2
+    loop-less-2
+    loop-again-2
+    demand-lost-requires
     halt-requires
     same-length-5
     same-length-6

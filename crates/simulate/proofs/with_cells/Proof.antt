@@ -1,10 +1,9 @@
 -- `simulate::with_cells` meets its contract. Assumes nothing.
-use borrow.Author.Needs.{needs}
 use Prim.Native.Nat.{_+_, _*_}
-use mathlib.Core.Path.{sym, _∙_}
+use mathlib.Core.Path.{sym}
 use native.Mathlib.Omega.{arith}
 use lib.Seq.{length-take-le}
-use Rattle.simulate.proofs.Finding.{state-told}
+use borrow.Author.Needs.{needs}
 use Rattle.simulate.proofs.with_cells.Statement.{statement}
 use Rattle.simulate.proofs.with_cells.Tie as tie
 
@@ -42,7 +41,7 @@ enum-told : tie.Need-enum-told
 enum-told c = search needs
 
 with-state-requires : tie.Need-with-state-requires
-with-state-requires c κs = state-told _ _ _ _ (sym (c .before .before .before .state-found .ensures) ∙ c .before .enum-told .given .1) .accepted
+with-state-requires c κs = search needs
 
 enum-known-found : tie.Need-enum-known-found
 enum-known-found c = search needs

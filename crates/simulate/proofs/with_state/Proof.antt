@@ -1,10 +1,9 @@
 -- `simulate::with_state` meets its contract. Assumes nothing.
-use borrow.Author.Needs.{needs}
 use Prim.Native.Nat.{_+_, _*_}
-use mathlib.Core.Path.{sym, _∙_}
+use mathlib.Core.Path.{sym}
 use native.Mathlib.Omega.{arith}
 use lib.Seq.{length-take-le}
-use Rattle.simulate.proofs.Turning.{cells-most, accepted-fits, accepted-ready}
+use borrow.Author.Needs.{needs}
 use Rattle.simulate.proofs.with_state.Statement.{statement}
 use Rattle.simulate.proofs.with_state.Tie as tie
 
@@ -20,8 +19,8 @@ slice-aggregate-fail c = search needs
 fail-requires : tie.Need-fail-requires
 fail-requires c κs = search needs
 
-broken-requires : tie.Need-broken-requires
-broken-requires c κs = search needs
+demand-lost-requires : tie.Need-demand-lost-requires
+demand-lost-requires c κs = search needs
 
 halt-requires : tie.Need-halt-requires
 halt-requires c κs = search needs
@@ -31,9 +30,6 @@ same-length c = search needs
 
 returns : tie.Need-returns
 returns c = search needs
-
-cells-requires : tie.Need-cells-requires
-cells-requires c κs = search needs
 
 row-space-requires : tie.Need-row-space-requires
 row-space-requires c κs = search needs
@@ -48,16 +44,10 @@ add-row : tie.Need-add-row
 add-row c = search needs
 
 array-borrow-prefix-row : tie.Need-array-borrow-prefix-row
-array-borrow-prefix-row c = let a = c .before .before .before .before .before .before .before .before .before .before .args in
-    let most = cells-most (a .table .now) (a .state .now) (accepted-fits (a .table .now) (a .state .now) (c .before .before .before .before .before .before .before .before .before .before .pre)) in
-    let same = c .before .before .before .cells .ensures in
-    omega (arith, most, same, c .before .before .row-space .ensures)
+array-borrow-prefix-row c = search needs
 
 slice-aggregate-run-demand : tie.Need-slice-aggregate-run-demand
-slice-aggregate-run-demand c = let a = c .before .before .before .before .before .before .before .before .before .before .before .args in
-    let most = cells-most (a .table .now) (a .state .now) (accepted-fits (a .table .now) (a .state .now) (c .before .before .before .before .before .before .before .before .before .before .before .pre)) in
-    let same = c .before .before .before .before .cells .ensures in
-    sym (length-take-le (2 * c .before .before .before .before .cells .result + 1) (c .before .before .before .row-space .result) (omega (arith, most, same, c .before .before .before .row-space .ensures)))
+slice-aggregate-run-demand c = sym (length-take-le (2 * c .before .before .before .before .before .before .before .before .before .before .args .n + 1) (c .before .before .before .row-space .result) (omega (arith, c .before .before .before .before .before .before .before .before .before .before .pre, c .before .before .before .row-space .ensures)))
 
 mul-sheet : tie.Need-mul-sheet
 mul-sheet c = search needs
@@ -66,24 +56,13 @@ add-sheet : tie.Need-add-sheet
 add-sheet c = search needs
 
 array-borrow-prefix-sheet : tie.Need-array-borrow-prefix-sheet
-array-borrow-prefix-sheet c = let a = c .before .before .before .before .before .before .before .before .before .before .before .args in
-    let most = cells-most (a .table .now) (a .state .now) (accepted-fits (a .table .now) (a .state .now) (c .before .before .before .before .before .before .before .before .before .before .before .pre)) in
-    let same = c .before .before .before .before .cells .ensures in
-    omega (arith, most, same, c .before .before .sheet-space .ensures)
+array-borrow-prefix-sheet c = search needs
 
 slice-aggregate-run-demand-2 : tie.Need-slice-aggregate-run-demand-2
-slice-aggregate-run-demand-2 c = let a = c .before .before .before .before .before .before .before .before .before .before .before .before .args in
-    let most = cells-most (a .table .now) (a .state .now) (accepted-fits (a .table .now) (a .state .now) (c .before .before .before .before .before .before .before .before .before .before .before .before .pre)) in
-    let same = c .before .before .before .before .before .cells .ensures in
-    sym (length-take-le (4 * c .before .before .before .before .before .cells .result + 1) (c .before .before .before .sheet-space .result) (omega (arith, most, same, c .before .before .before .sheet-space .ensures)))
+slice-aggregate-run-demand-2 c = sym (length-take-le (4 * c .before .before .before .before .before .before .before .before .before .before .before .args .n + 1) (c .before .before .before .sheet-space .result) (omega (arith, c .before .before .before .before .before .before .before .before .before .before .before .pre, c .before .before .before .sheet-space .ensures)))
 
 run-demand-requires : tie.Need-run-demand-requires
-run-demand-requires c κs = let a = c .before .before .before .before .before .before .before .before .before .before .before .before .before .args in
-    let most = cells-most (a .table .now) (a .state .now) (accepted-fits (a .table .now) (a .state .now) (c .before .before .before .before .before .before .before .before .before .before .before .before .before .pre)) in
-    let same = c .before .before .before .before .before .before .cells .ensures in
-    accepted-ready (a .table .now) (a .state .now) (c .before .before .before .before .before .before .before .before .before .before .before .before .before .pre)
-    (length-take-le (2 * c .before .before .before .before .before .before .cells .result + 1) (c .before .before .before .before .before .row-space .result) (omega (arith, most, same, c .before .before .before .before .before .row-space .ensures)) ∙ omega (arith, same))
-    (length-take-le (4 * c .before .before .before .before .before .before .cells .result + 1) (c .before .before .before .before .sheet-space .result) (omega (arith, most, same, c .before .before .before .before .sheet-space .ensures)) ∙ omega (arith, same))
+run-demand-requires c κs = search needs
 
 close-requires : tie.Need-close-requires
 close-requires c κs = search needs
@@ -105,11 +84,10 @@ with-state-spec =
     open-read-requires
     slice-aggregate-fail
     fail-requires
-    broken-requires
+    demand-lost-requires
     halt-requires
     same-length
     returns
-    cells-requires
     row-space-requires
     sheet-space-requires
     mul-row

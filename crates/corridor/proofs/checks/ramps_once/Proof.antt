@@ -1,34 +1,130 @@
--- `corridor::checks::ramps_once` meets its contract: fresh marks are all down. Assumes nothing.
+-- `corridor::checks::ramps_once` meets its contract, by the laws of the search and of the marks: two positions a turn. Assumes nothing.
+use Prim.Native.Nat.{ℕ, _+_, _*_, _-_, _<_}
+use mathlib.Core.List.{List}
+use mathlib.Core.Path.{_≡_, _∙_, refl}
+use native.Mathlib.Omega.{arith}
 use borrow.Author.Needs.{needs}
-use Rattle.corridor.proofs.Ramps.{all-down, all-have-marks}
+use Rattle.whole.proofs.Search.{Searching, begins, goes-on, found, not-found}
+use Rattle.corridor.specs.Layout.{cells, rampAt}
+use Rattle.corridor.specs.Acceptance.{rampIsNew, rampsOnce}
+use Rattle.corridor.proofs.Ramps.{Marked, marks-down, mark-up, marks-tell, on-ramp-at, off-ramp-at}
 use Rattle.corridor.proofs.checks.ramps_once.Statement.{statement}
 use Rattle.corridor.proofs.checks.ramps_once.Tie as tie
 
-ramps-below-requires : tie.Need-ramps-below-requires
-ramps-below-requires c κs = search needs
+abbrev Inv-loop : tie.InvT-loop
+Inv-loop table marks₀ n i₀ marks i = Searching (rampsOnce table .places) (rampsOnce table .test) (2 * n) (2 * i) × Marked table (2 * i) marks
 
-low-ramps-once-requires : tie.Need-low-ramps-once-requires
-low-ramps-once-requires c κs = c .before .ramps-below .ensures (c .if1 .taken)
+abbrev μ-loop : tie.MeasureT-loop
+μ-loop table marks₀ n i₀ marks i = n - i
 
-returns : tie.Need-returns
-returns c = search needs
+abbrev Here : Type 0
+Here = tie.After-row-at Inv-loop μ-loop
 
-slice-aggregate-ramps-once-by : tie.Need-slice-aggregate-ramps-once-by
-slice-aggregate-ramps-once-by c = search needs
+abbrev road : Here → List ℕ
+road c = c .before .before .before .before .before .args .table .now
 
-ramps-once-by-requires : tie.Need-ramps-once-by-requires
-ramps-once-by-requires c κs = (all-down 65536, all-have-marks (c .before .before .before .before .args .table .now) 65536 (c .before .before .before .before .pre))
+abbrev turn : Here → ℕ
+turn c = c .before .before .loop .i
 
-returns-2 : tie.Need-returns-2
-returns-2 c = search needs
+on-is : (c : Here) → c .row-at .result .on ≡ rampAt (road c) (2 * turn c)
+on-is c = on-ramp-at (road c) (turn c) (c .row-at .ensures)
+
+off-is : (c : Here) → c .row-at .result .off ≡ rampAt (road c) (2 * turn c + 1)
+off-is c = off-ramp-at (road c) (turn c) (c .row-at .ensures)
+
+on-below : (c : Here) → c .row-at .result .on < 65_536
+on-below c = omega (arith, on-is c, c .before .before .before .before .before .pre (2 * turn c) (omega arith))
+
+off-below : (c : Here) → c .row-at .result .off < 65_536
+off-below c = omega (arith, off-is c, c .before .before .before .before .before .pre (2 * turn c + 1) (omega arith))
+
+cells-requires : tie.Need-cells-requires Inv-loop μ-loop
+cells-requires c κs = search needs
+
+loop-holds : tie.Need-loop-holds Inv-loop μ-loop
+loop-holds c = (begins _ (omega arith), marks-down _)
+
+row-at-requires : tie.Need-row-at-requires Inv-loop μ-loop
+row-at-requires c κs = search needs
+
+cast-ramp-again : tie.Need-cast-ramp-again Inv-loop μ-loop
+cast-ramp-again c = search needs
+
+ramp-again-requires : tie.Need-ramp-again-requires Inv-loop μ-loop
+ramp-again-requires c κs = on-below (c .before .before)
+
+mul-result : tie.Need-mul-result Inv-loop μ-loop
+mul-result c = search needs
+
+returns : tie.Need-returns Inv-loop μ-loop
+returns c =
+    let inv = c .before .before .before .before .before .before .loop .inv in
+    found (inv .0) (search needs) refl (marks-tell (inv .1) (on-is (c .before .before .before .before)) (c .before .ramp-again .ensures .0) ∙ c .if1 .taken)
+
+-- past the on-ramp
+passed : (c : tie.Else1 Inv-loop μ-loop) → let here = c .before .before .before .before in Searching (2 * cells (road here)) (rampIsNew (road here)) (2 * here .before .before .before .cells .result) (2 * turn here + 1) × Marked (road here) (2 * turn here + 1) (c .before .ramp-again .last .0)
+passed c =
+    let inv = c .before .before .before .before .before .before .loop .inv in
+    let row = c .before .before .before .before in
+    (goes-on (inv .0) (search needs) refl (marks-tell (inv .1) (on-is row) (c .before .ramp-again .ensures .0) ∙ c .if1 .left), mark-up (inv .1) (on-is row) (on-below row) (c .before .ramp-again .ensures .1))
+
+cast-ramp-again-2 : tie.Need-cast-ramp-again-2 Inv-loop μ-loop
+cast-ramp-again-2 c = search needs
+
+ramp-again-requires-2 : tie.Need-ramp-again-requires-2 Inv-loop μ-loop
+ramp-again-requires-2 c κs = off-below (c .before .before .before .before .before .before)
+
+mul-result-2 : tie.Need-mul-result-2 Inv-loop μ-loop
+mul-result-2 c = search needs
+
+add-result : tie.Need-add-result Inv-loop μ-loop
+add-result c = search needs
+
+returns-2 : tie.Need-returns-2 Inv-loop μ-loop
+returns-2 c =
+    let at = passed (c .before .before .before .before) in
+    found (at .0) (omega arith) refl (marks-tell (at .1) (off-is (c .before .before .before .before .before .before .before .before)) (c .before .ramp-again2 .ensures .0) ∙ c .if2 .taken)
+
+add-i : tie.Need-add-i Inv-loop μ-loop
+add-i c = search needs
+
+loop-less : tie.Need-loop-less Inv-loop μ-loop
+loop-less c = search needs
+
+loop-again : tie.Need-loop-again Inv-loop μ-loop
+loop-again c =
+    let at = passed (c .before .before .before .before) in
+    let row = c .before .before .before .before .before .before .before .before in
+    let twice : 2 * (turn row + 1) ≡ 2 * turn row + 1 + 1 = omega arith in
+    rw twice
+    (goes-on (at .0) (omega arith) refl (marks-tell (at .1) (off-is row) (c .before .ramp-again2 .ensures .0) ∙ c .if2 .left), mark-up (at .1) (off-is row) (off-below row) (c .before .ramp-again2 .ensures .1))
+
+mul-result-3 : tie.Need-mul-result-3 Inv-loop μ-loop
+mul-result-3 c = search needs
+
+returns-3 : tie.Need-returns-3 Inv-loop μ-loop
+returns-3 c = not-found (c .before .loop .inv .0) (omega arith)
 
 pub ramps-once-spec : {M : Type 1} → statement M
 ramps-once-spec =
     tie.close
     (tie.spec
-    ramps-below-requires
-    low-ramps-once-requires
+    Inv-loop
+    μ-loop
+    cells-requires
+    loop-holds
+    row-at-requires
+    cast-ramp-again
+    ramp-again-requires
+    mul-result
     returns
-    slice-aggregate-ramps-once-by
-    ramps-once-by-requires
-    returns-2)
+    cast-ramp-again-2
+    ramp-again-requires-2
+    mul-result-2
+    add-result
+    returns-2
+    add-i
+    loop-less
+    loop-again
+    mul-result-3
+    returns-3)

@@ -1,41 +1,78 @@
--- `diagram::checks::samples_usable` meets its contract. Assumes nothing.
-use Prim.Native.Nat.{_-_}
+-- `diagram::checks::samples_usable` meets its contract: a search for the first unusable sample, and a pass for the largest
+-- flow, in one loop. Assumes nothing.
+use Prim.Native.Nat.{_+_, _-_}
 use mathlib.Core.Path.{refl}
+use native.Mathlib.Omega.{arith}
 use borrow.Author.Needs.{needs}
+use lib.Ieee.{ofBits, ofInt}
+use lib.ListN.{length}
 use Rattle.whole.proofs.Search.{Searching, begins, goes-on, found, not-found}
+use Rattle.diagram.specs.Samples.{samples}
+use Rattle.diagram.specs.Diagrams.{larger}
 use Rattle.diagram.specs.Calibration.{samplesUsable}
+use Rattle.diagram.proofs.Answers.{tested}
+use Rattle.diagram.proofs.Passes.{Passing, folding, ends-whole}
+use Rattle.diagram.proofs.Passes as passes
 use Rattle.diagram.proofs.checks.samples_usable.Statement.{statement}
 use Rattle.diagram.proofs.checks.samples_usable.Tie as tie
 
 abbrev Inv-loop : tie.InvT-loop
-Inv-loop flow occupancy settings n i₀ i = Searching (samplesUsable settings flow occupancy .places) (samplesUsable settings flow occupancy .test) n i
+Inv-loop flow occupancy settings n capacity₀ i₀ capacity i = Searching (length flow + 1) (samplesUsable settings flow occupancy .test) (n + 1) (i + 1)
+    × Passing (folding larger) (samples settings flow occupancy) 0 n i capacity
 
 abbrev μ-loop : tie.MeasureT-loop
-μ-loop flow occupancy settings n i₀ i = n - i
+μ-loop flow occupancy settings n capacity₀ i₀ capacity i = n - i
 
-add-n : tie.Need-add-n Inv-loop μ-loop
-add-n c = search needs
-
-loop-holds : tie.Need-loop-holds Inv-loop μ-loop
-loop-holds c = begins _ refl
-
-usable-at-requires : tie.Need-usable-at-requires Inv-loop μ-loop
-usable-at-requires c κs = search needs
+settings-fit-requires : tie.Need-settings-fit-requires Inv-loop μ-loop
+settings-fit-requires c κs = search needs
 
 returns : tie.Need-returns Inv-loop μ-loop
-returns c = found (c .before .before .before .loop .inv) (search needs) (c .before .usable-at .ensures) (c .if1 .taken)
+returns c = let lists = c .before .before .before .before .args in
+    let check = samplesUsable (lists .settings) (lists .flow .now) (lists .occupancy .now) in
+    (found {places = check .places} (begins (check .test) refl) (omega arith) (c .before .settings-fit .ensures) (c .if1 .taken), λ h. absurd (omega arith))
+
+loop-holds : tie.Need-loop-holds Inv-loop μ-loop
+unfolding ofBits ofInt
+loop-holds c = (goes-on (begins _ refl) (omega arith) (c .before .settings-fit .ensures) (c .if1 .left), passes.begins _ _ _ _)
+
+sample-at-requires : tie.Need-sample-at-requires Inv-loop μ-loop
+sample-at-requires c κs = search needs
 
 add-i : tie.Need-add-i Inv-loop μ-loop
 add-i c = search needs
+
+usable-requires : tie.Need-usable-requires Inv-loop μ-loop
+usable-requires c κs = search needs
+
+returns-2 : tie.Need-returns-2 Inv-loop μ-loop
+returns-2 c = let at = c .before .before .before .before in
+    let lists = at .before .before .before .before .before .args in (
+      found (at .loop .inv .0) (omega arith) (tested (lists .settings) (lists .flow .now) (lists .occupancy .now) (at .loop .i) (c .before .before .sample-at .ensures) (c .before .usable .ensures)) (c .if2 .taken),
+      λ h. absurd (omega arith),
+    )
+
+larger-flow-requires : tie.Need-larger-flow-requires Inv-loop μ-loop
+larger-flow-requires c κs = search needs
 
 loop-less : tie.Need-loop-less Inv-loop μ-loop
 loop-less c = search needs
 
 loop-again : tie.Need-loop-again Inv-loop μ-loop
-loop-again c = goes-on (c .before .before .before .loop .inv) (search needs) (c .before .usable-at .ensures) (c .if1 .left)
+loop-again c = let at = c .before .before .before .before .before in
+    let lists = at .before .before .before .before .before .args in
+    let read = c .before .before .before .sample-at .ensures in (
+      goes-on (at .loop .inv .0) (omega arith) (tested (lists .settings) (lists .flow .now) (lists .occupancy .now) (at .loop .i) read (c .before .before .usable .ensures)) (c .before .if2 .left),
+      passes.goes-on (lists .settings) (lists .flow .now) (lists .occupancy .now) (at .loop .inv .1) (search needs) (search needs) read (c .larger-flow .ensures),
+    )
 
-returns-2 : tie.Need-returns-2 Inv-loop μ-loop
-returns-2 c = not-found (c .before .loop .inv) (search needs)
+add-t12 : tie.Need-add-t12 Inv-loop μ-loop
+add-t12 c = search needs
+
+returns-3 : tie.Need-returns-3 Inv-loop μ-loop
+returns-3 c = let lists = c .before .before .before .before .before .before .args in (
+  not-found (c .before .loop .inv .0) (omega arith),
+  λ h. ends-whole (lists .settings) (lists .flow .now) (lists .occupancy .now) (c .before .loop .inv .1) (search needs),
+)
 
 pub samples-usable-spec : {M : Type 1} → statement M
 samples-usable-spec =
@@ -43,11 +80,15 @@ samples-usable-spec =
     (tie.spec
     Inv-loop
     μ-loop
-    add-n
-    loop-holds
-    usable-at-requires
+    settings-fit-requires
     returns
+    loop-holds
+    sample-at-requires
     add-i
+    usable-requires
+    returns-2
+    larger-flow-requires
     loop-less
     loop-again
-    returns-2)
+    add-t12
+    returns-3)

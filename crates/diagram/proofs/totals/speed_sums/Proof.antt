@@ -21,20 +21,8 @@ loop-holds : tie.Need-loop-holds Inv-loop μ-loop
 unfolding ofBits ofInt
 loop-holds c = (begins _ _ _ _, begins _ _ _ _)
 
-mul-read-sample : tie.Need-mul-read-sample Inv-loop μ-loop
-mul-read-sample c = search needs
-
-shared-slice-read-read-sample : tie.Need-shared-slice-read-read-sample Inv-loop μ-loop
-shared-slice-read-read-sample c = search needs
-
-mul-read-sample-2 : tie.Need-mul-read-sample-2 Inv-loop μ-loop
-mul-read-sample-2 c = search needs
-
-shared-slice-read-read-sample-2 : tie.Need-shared-slice-read-read-sample-2 Inv-loop μ-loop
-shared-slice-read-read-sample-2 c = search needs
-
-read-sample-requires : tie.Need-read-sample-requires Inv-loop μ-loop
-read-sample-requires c κs = search needs
+sample-at-requires : tie.Need-sample-at-requires Inv-loop μ-loop
+sample-at-requires c κs = search needs
 
 plus-flow-by-density-requires : tie.Need-plus-flow-by-density-requires Inv-loop μ-loop
 plus-flow-by-density-requires c κs = search needs
@@ -49,10 +37,11 @@ loop-less : tie.Need-loop-less Inv-loop μ-loop
 loop-less c = search needs
 
 loop-again : tie.Need-loop-again Inv-loop μ-loop
-loop-again c = let lists = c .before .before .before .before .before .before .before .before .before .args in
-    let read = (c .before .before .read-sample .ensures) in (
-      goes-on (lists .settings) (lists .flow .now) (lists .occupancy .now) (c .before .before .before .before .before .before .loop .inv .0) (search needs) (search needs) read (c .before .plus-flow-by-density .ensures),
-      goes-on (lists .settings) (lists .flow .now) (lists .occupancy .now) (c .before .before .before .before .before .before .loop .inv .1) (search needs) (search needs) read (c .plus-density-squared .ensures),
+loop-again c = let at = c .before .before .before .before in
+    let lists = at .before .before .before .args in
+    let read = c .before .before .sample-at .ensures in (
+      goes-on (lists .settings) (lists .flow .now) (lists .occupancy .now) (at .loop .inv .0) (search needs) (search needs) read (c .before .plus-flow-by-density .ensures),
+      goes-on (lists .settings) (lists .flow .now) (lists .occupancy .now) (at .loop .inv .1) (search needs) (search needs) read (c .plus-density-squared .ensures),
     )
 
 returns : tie.Need-returns Inv-loop μ-loop
@@ -65,11 +54,7 @@ speed-sums-spec =
     Inv-loop
     μ-loop
     loop-holds
-    mul-read-sample
-    shared-slice-read-read-sample
-    mul-read-sample-2
-    shared-slice-read-read-sample-2
-    read-sample-requires
+    sample-at-requires
     plus-flow-by-density-requires
     plus-density-squared-requires
     add-i

@@ -20,20 +20,8 @@ loop-holds : tie.Need-loop-holds Inv-loop μ-loop
 unfolding ofBits ofInt
 loop-holds c = (begins _ _ _ _, begins _ _ _ _)
 
-mul-read-sample : tie.Need-mul-read-sample Inv-loop μ-loop
-mul-read-sample c = search needs
-
-shared-slice-read-read-sample : tie.Need-shared-slice-read-read-sample Inv-loop μ-loop
-shared-slice-read-read-sample c = search needs
-
-mul-read-sample-2 : tie.Need-mul-read-sample-2 Inv-loop μ-loop
-mul-read-sample-2 c = search needs
-
-shared-slice-read-read-sample-2 : tie.Need-shared-slice-read-read-sample-2 Inv-loop μ-loop
-shared-slice-read-read-sample-2 c = search needs
-
-read-sample-requires : tie.Need-read-sample-requires Inv-loop μ-loop
-read-sample-requires c κs = search needs
+sample-at-requires : tie.Need-sample-at-requires Inv-loop μ-loop
+sample-at-requires c κs = search needs
 
 plus-above-requires : tie.Need-plus-above-requires Inv-loop μ-loop
 plus-above-requires c κs = search needs
@@ -45,11 +33,11 @@ loop-less : tie.Need-loop-less Inv-loop μ-loop
 loop-less c = search needs
 
 loop-again : tie.Need-loop-again Inv-loop μ-loop
-loop-again c = let lists = c .before .before .before .before .before .before .before .before .args in
-    let inv = c .before .before .before .before .before .loop .inv in
-    let read = (c .before .read-sample .ensures) in (
-      goes-on (lists .settings) (lists .flow .now) (lists .occupancy .now) (inv .0) (search needs) (search needs) read (c .plus-above .ensures .0),
-      goes-on (lists .settings) (lists .flow .now) (lists .occupancy .now) (inv .1) (search needs) (search needs) read (c .plus-above .ensures .1),
+loop-again c = let at = c .before .before .before in
+    let lists = at .before .before .before .args in
+    let read = c .before .sample-at .ensures in (
+      goes-on (lists .settings) (lists .flow .now) (lists .occupancy .now) (at .loop .inv .0) (search needs) (search needs) read (c .plus-above .ensures .0),
+      goes-on (lists .settings) (lists .flow .now) (lists .occupancy .now) (at .loop .inv .1) (search needs) (search needs) read (c .plus-above .ensures .1),
     )
 
 returns : tie.Need-returns Inv-loop μ-loop
@@ -63,11 +51,7 @@ wave-sums-spec =
     Inv-loop
     μ-loop
     loop-holds
-    mul-read-sample
-    shared-slice-read-read-sample
-    mul-read-sample-2
-    shared-slice-read-read-sample-2
-    read-sample-requires
+    sample-at-requires
     plus-above-requires
     add-i
     loop-less

@@ -1,0 +1,56 @@
+-- `digits::decimal::put_rest` meets its contract. Assumes nothing.
+use mathlib.Core.List.{[], _∷_}
+use native.Mathlib.Omega.{arith}
+use borrow.Author.Needs.{needs}
+use Rattle.digits.proofs.Lines.{rest-begins, further-put, rest-ends}
+use Rattle.digits.proofs.decimal.put_rest.Statement.{statement}
+use Rattle.digits.proofs.decimal.put_rest.Tie as tie
+
+put-further-requires : tie.Need-put-further-requires
+put-further-requires c κs = search needs
+
+put-further-requires-2 : tie.Need-put-further-requires-2
+put-further-requires-2 c κs = search needs
+
+put-further-requires-3 : tie.Need-put-further-requires-3
+put-further-requires-3 c κs = search needs
+
+put-further-requires-4 : tie.Need-put-further-requires-4
+put-further-requires-4 c κs = search needs
+
+put-further-requires-5 : tie.Need-put-further-requires-5
+put-further-requires-5 c κs = search needs
+
+put-further-requires-6 : tie.Need-put-further-requires-6
+put-further-requires-6 c κs = search needs
+
+put-end-requires : tie.Need-put-end-requires
+put-end-requires c κs = search needs
+
+same-length : tie.Need-same-length
+same-length c = search needs
+
+returns : tie.Need-returns
+returns c = let a = c .before .before .before .before .before .before .before .before .before .before .before .before .before .before .before .before .before .before .before .before .before .before .before .before .before .before .before .before .before .args in
+    let at-a = further-put (a .a) (a .b ∷ a .c ∷ a .d ∷ a .e ∷ a .f ∷ []) (rest-begins (a .a ∷ a .b ∷ a .c ∷ a .d ∷ a .e ∷ a .f ∷ []) (a .buffer .now) (a .at)) (c .before .before .before .before .before .before .before .before .before .before .before .before .before .before .before .before .before .before .before .before .before .before .before .before .before .before .put-further .ensures .0) (c .before .before .before .before .before .before .before .before .before .before .before .before .before .before .before .before .before .before .before .before .before .before .before .before .before .before .put-further .ensures .1 .1) in
+    let at-b = further-put (a .b) (a .c ∷ a .d ∷ a .e ∷ a .f ∷ []) at-a (c .before .before .before .before .before .before .before .before .before .before .before .before .before .before .before .before .before .before .before .before .before .before .put-further2 .ensures .0) (c .before .before .before .before .before .before .before .before .before .before .before .before .before .before .before .before .before .before .before .before .before .before .put-further2 .ensures .1 .1) in
+    let at-c = further-put (a .c) (a .d ∷ a .e ∷ a .f ∷ []) at-b (c .before .before .before .before .before .before .before .before .before .before .before .before .before .before .before .before .before .before .put-further3 .ensures .0) (c .before .before .before .before .before .before .before .before .before .before .before .before .before .before .before .before .before .before .put-further3 .ensures .1 .1) in
+    let at-d = further-put (a .d) (a .e ∷ a .f ∷ []) at-c (c .before .before .before .before .before .before .before .before .before .before .before .before .before .before .put-further4 .ensures .0) (c .before .before .before .before .before .before .before .before .before .before .before .before .before .before .put-further4 .ensures .1 .1) in
+    let at-e = further-put (a .e) (a .f ∷ []) at-d (c .before .before .before .before .before .before .before .before .before .before .put-further5 .ensures .0) (c .before .before .before .before .before .before .before .before .before .before .put-further5 .ensures .1 .1) in
+    let at-f = further-put (a .f) [] at-e (c .before .before .before .before .before .before .put-further6 .ensures .0) (c .before .before .before .before .before .before .put-further6 .ensures .1 .1) in
+    let done = rest-ends at-f (c .before .before .put-end .ensures .0) (c .before .before .put-end .ensures .1) in
+    (done .0, (omega arith, done .1))
+
+pub put-rest-spec : {M : Type 1} → statement M
+put-rest-spec =
+    tie.close
+    (tie.spec
+    put-further-requires
+    put-further-requires-2
+    put-further-requires-3
+    put-further-requires-4
+    put-further-requires-5
+    put-further-requires-6
+    put-end-requires
+    same-length
+    returns)

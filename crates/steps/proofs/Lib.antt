@@ -1,0 +1,12 @@
+pub mod FilePieces
+pub mod Writing
+pub mod Turning
+pub mod Finding
+pub mod Texts
+pub mod Following
+pub mod Calls
+pub mod Sheets
+pub mod Staying
+pub mod Simulated
+pub mod Settled
+pub mod Leading

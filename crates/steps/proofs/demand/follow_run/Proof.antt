@@ -1,0 +1,162 @@
+-- `steps::demand::follow_run` meets its contract. Assumes nothing.
+use Prim.Native.Nat.{_-_, _<_}
+use mathlib.Core.Path.{_≡_, refl, sym, _∙_}
+use native.Mathlib.Omega.{arith}
+use borrow.Author.Tests.{not-true, not-false}
+use borrow.Author.Needs.{needs}
+use lib.ListN.{length}
+use Rattle.steps.proofs.Turning.{cells-most, goes-onward}
+use Rattle.steps.proofs.Following.{Following, begins, full, used-up, part-left, over-left, period-followed, room-after}
+use Rattle.steps.proofs.demand.follow_run.Statement.{statement}
+use Rattle.steps.proofs.demand.follow_run.Tie as tie
+
+abbrev Inv-loop : tie.InvT-loop
+Inv-loop chunk k table state₀ row₀ sheet₀ out₀ n k₀ scan₀ from₀ at₀ state row sheet out k' scan from at =
+    Following table chunk k scan₀ row₀ state₀ sheet₀ out₀ k' scan row state sheet out from at × (length state ≡ length state₀) × (length row ≡ length row₀) × (length sheet ≡ length sheet₀) × (length out ≡ length out₀)
+
+abbrev μ-loop : tie.MeasureT-loop
+μ-loop chunk k table state₀ row₀ sheet₀ out₀ n k₀ scan₀ from₀ at₀ state row sheet out k' scan from at =
+    length chunk - from
+
+cells-requires : tie.Need-cells-requires Inv-loop μ-loop
+cells-requires c κs = search needs
+
+loop-holds : tie.Need-loop-holds Inv-loop μ-loop
+loop-holds c = (begins _ _ _ _ _ _ _ _ (c .before .before .before .before .before .before .before .pre .0) (c .before .before .before .before .before .before .before .pre .1), refl, refl, refl, refl)
+
+has-room-requires : tie.Need-has-room-requires Inv-loop μ-loop
+has-room-requires c κs = let a = c .before .before .before .before .before .before .before .before .before .args in rw (c .before .before .cells .ensures) (cells-most (a .table .now) (c .before .loop .state) (c .before .loop .inv .0 .ready .fits))
+
+stands-requires : tie.Need-stands-requires Inv-loop μ-loop
+stands-requires c κs = search needs
+
+same-length : tie.Need-same-length Inv-loop μ-loop
+same-length c = omega arith
+
+same-length-2 : tie.Need-same-length-2 Inv-loop μ-loop
+same-length-2 c = omega arith
+
+same-length-3 : tie.Need-same-length-3 Inv-loop μ-loop
+same-length-3 c = omega arith
+
+same-length-4 : tie.Need-same-length-4 Inv-loop μ-loop
+same-length-4 c = omega arith
+
+returns : tie.Need-returns Inv-loop μ-loop
+returns c = rw (c .stands .ensures) (full _ _ _ _ _ _ _ _ (c .before .before .before .before .loop .inv .0) (rw (c .before .before .before .before .before .cells .ensures, c .before .before .before .before .loop .inv .4) at (sym (c .before .before .has-room .ensures) ∙ not-true _ (c .before .if1 .taken))) (c .before .before .before .loop-test .taken))
+
+turn-requires : tie.Need-turn-requires Inv-loop μ-loop
+turn-requires c κs = (c .before .before .before .before .before .before .before .loop .inv .0 .ready, room-after _ _ _ (rw (c .before .before .before .before .before .before .before .before .cells .ensures) at (sym (c .before .before .before .before .before .has-room .ensures) ∙ not-false _ (c .before .before .before .before .if1 .left))))
+
+enum-known-turn : tie.Need-enum-known-turn Inv-loop μ-loop
+enum-known-turn c = search needs
+
+stands-requires-2 : tie.Need-stands-requires-2 Inv-loop μ-loop
+stands-requires-2 c κs = search needs
+
+same-length-5 : tie.Need-same-length-5 Inv-loop μ-loop
+same-length-5 c = omega arith
+
+same-length-6 : tie.Need-same-length-6 Inv-loop μ-loop
+same-length-6 c = omega arith
+
+same-length-7 : tie.Need-same-length-7 Inv-loop μ-loop
+same-length-7 c = omega arith
+
+same-length-8 : tie.Need-same-length-8 Inv-loop μ-loop
+same-length-8 c = omega arith
+
+returns-2 : tie.Need-returns-2 Inv-loop μ-loop
+returns-2 c = rw (c .stands2 .ensures) (part-left _ _ _ _ _ _ _ _ (c .before .before .before .before .before .before .before .before .before .before .before .before .before .before .before .before .before .before .before .before .loop .inv .0) (rw (c .before .before .before .before .before .before .before .before .before .before .before .before .before .before .before .before .before .before .before .before .before .cells .ensures, c .before .before .before .before .before .before .before .before .before .before .before .before .before .before .before .before .before .before .before .before .loop .inv .4) at (sym (c .before .before .before .before .before .before .before .before .before .before .before .before .before .before .before .before .before .before .has-room .ensures) ∙ not-false _ (c .before .before .before .before .before .before .before .before .before .before .before .before .before .before .before .before .before .if1 .left))) (c .before .before .before .before .before .before .before .before .before .before .before .before .turn .ensures .0) (omega arith) (c .before .before .before .before .before .before .before .before .before .before .before .before .turn .ensures .1) (c .before .before .turn2 .given .1))
+
+enum-known-turn-2 : tie.Need-enum-known-turn-2 Inv-loop μ-loop
+enum-known-turn-2 c = search needs
+
+begin-requires : tie.Need-begin-requires Inv-loop μ-loop
+begin-requires c κs = search needs
+
+counted-requires : tie.Need-counted-requires Inv-loop μ-loop
+counted-requires c κs = search needs
+
+loop-less : tie.Need-loop-less Inv-loop μ-loop
+loop-less c = let on : c .before .before .before .before .before .before .before .before .before .before .before .before .before .before .before .before .before .before .before .before .before .loop .from < c .before .before .before .turn3 .given .0 .0 = rw (c .before .before .before .turn3 .given .1) at (goes-onward _ _ _ _ _ _ (c .before .before .before .before .before .before .before .before .before .before .before .before .before .turn .ensures .1 .answered)) in omega arith
+
+loop-again : tie.Need-loop-again Inv-loop μ-loop
+loop-again c = let on : c .before .before .before .before .before .before .before .before .before .before .before .before .before .before .before .before .before .before .before .before .before .loop .from < c .before .before .before .turn3 .given .0 .0 = rw (c .before .before .before .turn3 .given .1) at (goes-onward _ _ _ _ _ _ (c .before .before .before .before .before .before .before .before .before .before .before .before .before .turn .ensures .1 .answered)) in (rw (c .before .begin .ensures, c .counted .ensures) (period-followed _ _ _ _ _ _ _ _ (c .before .before .before .before .before .before .before .before .before .before .before .before .before .before .before .before .before .before .before .before .before .loop .inv .0) (rw (c .before .before .before .before .before .before .before .before .before .before .before .before .before .before .before .before .before .before .before .before .before .before .cells .ensures, c .before .before .before .before .before .before .before .before .before .before .before .before .before .before .before .before .before .before .before .before .before .loop .inv .4) at (sym (c .before .before .before .before .before .before .before .before .before .before .before .before .before .before .before .before .before .before .before .has-room .ensures) ∙ not-false _ (c .before .before .before .before .before .before .before .before .before .before .before .before .before .before .before .before .before .before .if1 .left))) (c .before .before .before .before .before .before .before .before .before .before .before .before .before .turn .ensures .0) (omega arith) (c .before .before .before .before .before .before .before .before .before .before .before .before .before .turn .ensures .1) (c .before .before .before .turn3 .given .1) on), omega arith, omega arith, omega arith, omega arith)
+
+enum-known-turn-3 : tie.Need-enum-known-turn-3 Inv-loop μ-loop
+enum-known-turn-3 c = search needs
+
+same-length-9 : tie.Need-same-length-9 Inv-loop μ-loop
+same-length-9 c = omega arith
+
+same-length-10 : tie.Need-same-length-10 Inv-loop μ-loop
+same-length-10 c = omega arith
+
+same-length-11 : tie.Need-same-length-11 Inv-loop μ-loop
+same-length-11 c = omega arith
+
+same-length-12 : tie.Need-same-length-12 Inv-loop μ-loop
+same-length-12 c = omega arith
+
+returns-3 : tie.Need-returns-3 Inv-loop μ-loop
+returns-3 c = over-left _ _ _ _ _ _ _ _ (c .before .before .before .before .before .before .before .before .before .before .before .before .before .before .before .before .before .before .before .loop .inv .0) (rw (c .before .before .before .before .before .before .before .before .before .before .before .before .before .before .before .before .before .before .before .before .cells .ensures, c .before .before .before .before .before .before .before .before .before .before .before .before .before .before .before .before .before .before .before .loop .inv .4) at (sym (c .before .before .before .before .before .before .before .before .before .before .before .before .before .before .before .before .before .has-room .ensures) ∙ not-false _ (c .before .before .before .before .before .before .before .before .before .before .before .before .before .before .before .before .if1 .left))) (c .before .before .before .before .before .before .before .before .before .before .before .turn .ensures .0) (omega arith) (c .before .before .before .before .before .before .before .before .before .before .before .turn .ensures .1) (c .before .turn4 .given .1)
+
+stands-requires-3 : tie.Need-stands-requires-3 Inv-loop μ-loop
+stands-requires-3 c κs = search needs
+
+same-length-13 : tie.Need-same-length-13 Inv-loop μ-loop
+same-length-13 c = omega arith
+
+same-length-14 : tie.Need-same-length-14 Inv-loop μ-loop
+same-length-14 c = omega arith
+
+same-length-15 : tie.Need-same-length-15 Inv-loop μ-loop
+same-length-15 c = omega arith
+
+same-length-16 : tie.Need-same-length-16 Inv-loop μ-loop
+same-length-16 c = omega arith
+
+returns-4 : tie.Need-returns-4 Inv-loop μ-loop
+returns-4 c = rw (c .stands3 .ensures) (used-up _ _ _ _ _ _ _ _ (c .before .before .loop .inv .0) (c .before .loop-test .left))
+
+pub follow-run-spec : {M : Type 1} → statement M
+follow-run-spec =
+    tie.close
+    (tie.spec
+    Inv-loop
+    μ-loop
+    cells-requires
+    loop-holds
+    has-room-requires
+    stands-requires
+    same-length
+    same-length-2
+    same-length-3
+    same-length-4
+    returns
+    turn-requires
+    enum-known-turn
+    stands-requires-2
+    same-length-5
+    same-length-6
+    same-length-7
+    same-length-8
+    returns-2
+    enum-known-turn-2
+    begin-requires
+    counted-requires
+    loop-less
+    loop-again
+    enum-known-turn-3
+    same-length-9
+    same-length-10
+    same-length-11
+    same-length-12
+    returns-3
+    stands-requires-3
+    same-length-13
+    same-length-14
+    same-length-15
+    same-length-16
+    returns-4)

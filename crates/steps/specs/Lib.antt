@@ -1,0 +1,6 @@
+pub mod Lines
+pub mod Files
+pub mod Turns
+pub mod Demand
+pub mod Program
+pub mod Steps

@@ -1,0 +1,93 @@
+// One demand record at a time: read, checked, run and written.
+ghost use mathlib.Core.Path.{_≡_};
+ghost use Prim.Native.Nat.{_+_, _*_, _≤_};
+ghost use lib.ListN.{length, drop};
+ghost use Rattle.text.specs.Scans.{ended};
+ghost use Rattle.text.specs.Reads.{readOn, rowOn, rowAtEnd};
+ghost use Rattle.corridor.specs.Layout.{cells};
+ghost use Rattle.steps.specs.Turns.{didRow, did, didEnd, rowAnswer, Turned, Ready};
+use crate::Turn;
+use crate::files::broken;
+use crate::files::refused_in;
+use crate::lines::put_period;
+use crate::lines::put_stop;
+use corridor::Answer;
+use corridor::layout::cells;
+use text::End;
+use text::Read;
+use text::Scan;
+
+// A complete row of period k: 6 and 7, then its period and its lines.
+fn run_row(
+    k: usize,
+    next: usize,
+    table: &[u32],
+    state: &mut [u32],
+    row: &[u32],
+    sheet: &mut [u32],
+    out: &mut [u8],
+    at: usize,
+) -> Turn
+    requires { ⌜ Ready (now table) (now state) (now row) (now sheet) ⌝ }
+    requires { ⌜ at + 149 * (cells (now table) + 1) ≤ length (now out) ⌝ }
+    ensures { λ r. ⌜ Turned (didRow (rowAnswer (now (table .entry)) (now (state .entry)) (now (row .entry))) next) k (now (table .entry)) (now (state .entry)) (now (row .entry)) (now (sheet .entry)) (now (out .entry)) at r (now (state .exit)) (now (sheet .exit)) (now (out .exit)) ⌝ }
+{
+    let answer = period::run_row(table, state, row, sheet);
+    match answer {
+        Answer::Accepted => Turn::Period {
+            next,
+            at: put_period(k, cells(table), state, sheet, out, at),
+        },
+        Answer::Refused(refusal) => Turn::Over(put_stop(refused_in(k, refusal), out, at)),
+    }
+}
+
+// Reads on in a chunk of the demand to the end of a record, and runs its period.
+pub(crate) fn turn(
+    chunk: &[u8],
+    from: usize,
+    scan: Scan,
+    k: usize,
+    table: &[u32],
+    state: &mut [u32],
+    row: &mut [u32],
+    sheet: &mut [u32],
+    out: &mut [u8],
+    at: usize,
+) -> Turn
+    requires { ⌜ Ready (now table) (now state) (now row) (now sheet) ⌝ }
+    requires { ⌜ at + 149 * (cells (now table) + 1) ≤ length (now out) ⌝ }
+    ensures reads { λ _. ⌜ now (row .exit) ≡ rowOn (length (now (row .entry))) scan (now (row .entry)) (drop from (now (chunk .entry))) ⌝ }
+    ensures does { λ r. ⌜ Turned (did (readOn (length (now (row .entry))) from scan (drop from (now (chunk .entry)))) (rowAnswer (now (table .entry)) (now (state .entry)) (now (row .exit)))) k (now (table .entry)) (now (state .entry)) (now (row .exit)) (now (sheet .entry)) (now (out .entry)) at r (now (state .exit)) (now (sheet .exit)) (now (out .exit)) ⌝ }
+{
+    let read = text::read_record(chunk, from, scan, row);
+    match read {
+        Read::Part(next) => Turn::Part { scan: next, at },
+        Read::Broken => Turn::Over(put_stop(broken(k, k, 3), out, at)),
+        Read::Record(next) => run_row(k, next, table, state, row, sheet, out, at),
+    }
+}
+
+// The demand ends. A record that ends with it has its period.
+pub(crate) fn last_turn(
+    scan: Scan,
+    k: usize,
+    table: &[u32],
+    state: &mut [u32],
+    row: &mut [u32],
+    sheet: &mut [u32],
+    out: &mut [u8],
+    at: usize,
+) -> Turn
+    requires { ⌜ Ready (now table) (now state) (now row) (now sheet) ⌝ }
+    requires { ⌜ at + 149 * (cells (now table) + 1) ≤ length (now out) ⌝ }
+    ensures reads { λ _. ⌜ now (row .exit) ≡ rowAtEnd (length (now (row .entry))) scan (now (row .entry)) ⌝ }
+    ensures does { λ r. ⌜ Turned (didEnd (ended scan (length (now (row .entry)))) (rowAnswer (now (table .entry)) (now (state .entry)) (now (row .exit)))) k (now (table .entry)) (now (state .entry)) (now (row .exit)) (now (sheet .entry)) (now (out .entry)) at r (now (state .exit)) (now (sheet .exit)) (now (out .exit)) ⌝ }
+{
+    let end = text::finish(scan, row);
+    match end {
+        End::Nothing => Turn::Over(at),
+        End::Cut => Turn::Over(put_stop(broken(k, k, 3), out, at)),
+        End::Last => run_row(k, 0, table, state, row, sheet, out, at),
+    }
+}
