@@ -1,11 +1,11 @@
 // Calibrates 16,384 sets of drawn samples and prints a digest of the answers' bits after each 2,048 sets. The stored output
 // is what the independent implementation in peer/calibration.rs prints, so that a run compares the two bit for bit. Among
 // the samples are subnormal, huge, equal and boundary values, infinities and NaNs.
-use corridor::Refusal;
 use diagram::Calibration;
 use diagram::Diagram;
 use diagram::RowNumbers;
 use diagram::Settings;
+use refusals::Refusal;
 
 // What is carried from set to set: the next draw, and the digest so far.
 struct Trials {
@@ -109,8 +109,8 @@ fn with_numbers(digest: u64, numbers: RowNumbers) -> u64 {
 }
 
 fn with_refusal(digest: u64, refusal: Refusal) -> u64 {
-    let a = with_word(digest, corridor::number(refusal) as u64);
-    with_word(a, corridor::place(refusal) as u64)
+    let a = with_word(digest, refusals::number(refusal) as u64);
+    with_word(a, refusals::place(refusal) as u64)
 }
 
 fn with_calibration(digest: u64, calibration: Calibration) -> u64 {

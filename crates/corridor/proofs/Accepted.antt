@@ -9,11 +9,11 @@ use lib.Dec.{leb}
 use Rattle.whole.specs.Search.{every}
 use Rattle.whole.specs.Share.{ONE}
 use Rattle.whole.proofs.Search.{Passes, passes-every}
-use Rattle.corridor.specs.declared.Answer.the-variants.{Accepted}
-use Rattle.corridor.specs.Layout.{cells, rowAt, entryQueue, countAt, queueAt, entryDemand, onDemandAt, offDemandAt}
-use Rattle.corridor.specs.Checks.{Check, answer}
+use Rattle.refusals.specs.declared.Answer.the-variants.{Accepted}
+use Rattle.layout.specs.Layout.{cells, rowAt, entryQueue, countAt, queueAt, entryDemand, onDemandAt, offDemandAt}
+use Rattle.refusals.specs.Checks.{Check, answer}
 use Rattle.corridor.specs.Acceptance.{withRamp, givenOff, queueLimit, demandLimit, tableNumbers, stateInRange, stateNumbers, demandNumbers}
-use Rattle.corridor.proofs.Answers.{accepted-passes, passes-accepted, accepted-both}
+use Rattle.refusals.proofs.Answers.{accepted-passes, passes-accepted, accepted-both}
 use Rattle.corridor.proofs.Ranges.{InRange, in-range, both-hold}
 
 pub record TableFits (table : List ℕ) : Type 0 where

@@ -11,8 +11,8 @@ use lib.Dec.{eqb}
 use lib.ListN.{length, replicate, length-replicate, length-set}
 use Rattle.whole.specs.Search.{pick, every}
 use Rattle.whole.proofs.Search.{Passes}
-use Rattle.corridor.specs.declared.Row.{Row}
-use Rattle.corridor.specs.Layout.{cells, rowAt, rampAt}
+use Rattle.layout.specs.declared.Row.{Row}
+use Rattle.layout.specs.Layout.{cells, rowAt, rampAt}
 use Rattle.corridor.specs.Acceptance.{rowInRange, rampIsNew}
 use Rattle.corridor.proofs.Ranges.{InRange, in-range}
 use Rattle.corridor.proofs.Marks.{up, withMark, fresh-down, own-mark-up, other-marks-stay}

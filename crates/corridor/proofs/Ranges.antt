@@ -9,8 +9,8 @@ use lib.Dec.{leb, eqb}
 use lib.ListN.{length}
 use Rattle.whole.specs.Share.{ONE}
 use Rattle.whole.specs.Search.{pick, within}
-use Rattle.corridor.specs.declared.Row.{Row}
-use Rattle.corridor.specs.Layout.{cells, stateLength, demandLength}
+use Rattle.layout.specs.declared.Row.{Row}
+use Rattle.layout.specs.Layout.{cells, stateLength, demandLength}
 use Rattle.corridor.specs.Acceptance.{tableLengthFits, stateLengthsFit, rowLengthsFit, rowInRange, withRamp}
 
 pub both-hold : (a b : Bool) → (a && b) ≡ true → (a ≡ true) × (b ≡ true)

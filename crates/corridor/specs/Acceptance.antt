@@ -7,10 +7,10 @@ use lib.ListN.{length}
 use Rattle.whole.specs.Share.{ONE}
 use Rattle.whole.specs.Search.{pick, within, every}
 use Rattle.whole.specs.Sums.{atPosition}
-use Rattle.corridor.specs.declared.Row.{Row}
-use Rattle.corridor.specs.declared.Refusal.the-variants.{Length, TableNumber, RoomShares, RampAgain, StateNumber, Demand, QueueOver}
-use Rattle.corridor.specs.Layout.{cells, rowAt, rampAt, stateLength, entryQueue, countAt, queueAt, demandLength, entryDemand, onDemandAt, offDemandAt}
-use Rattle.corridor.specs.Checks.{Check}
+use Rattle.layout.specs.declared.Row.{Row}
+use Rattle.refusals.specs.declared.Refusal.the-variants.{TableNumber, RoomShares, RampAgain, StateNumber, Demand, QueueOver}
+use Rattle.layout.specs.Layout.{cells, rowAt, rampAt, stateLength, entryQueue, countAt, queueAt, demandLength, entryDemand, onDemandAt, offDemandAt}
+use Rattle.refusals.specs.Checks.{Check, lengths}
 
 -- 1: a table has 1 to 512 whole rows, and the other lengths follow from N
 abbrev pub tableLengthFits : List ℕ → Bool
@@ -69,9 +69,6 @@ abbrev pub queueHolds : ℕ → ℕ → Bool
 queueHolds queue demand = leb (queue + demand) queueLimit
 
 -- The checks, by number. A place is a cell, counted from 1, or 0 for the entry.
-
-abbrev pub lengths : Bool → Check
-lengths fit = record { places = 1; test = λ _. fit; refusal = λ _. Length }
 
 abbrev pub rowsInRange : List ℕ → Check
 rowsInRange table = record { places = cells table; test = λ i. rowInRange (rowAt table i); refusal = λ i. TableNumber (i + 1) }

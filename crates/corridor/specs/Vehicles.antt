@@ -4,7 +4,7 @@ use mathlib.Core.List.{List, [], _∷_, _++_}
 use lib.Dec.{eqb}
 use Rattle.whole.specs.Sums.{sum}
 use Rattle.whole.specs.Search.{pick}
-use Rattle.corridor.specs.Layout.{cells, rowAt, entryQueue, countAt, queueAt}
+use Rattle.layout.specs.Layout.{cells, rowAt, entryQueue, countAt, queueAt}
 
 -- vehicles in cells and queues
 abbrev pub vehicles : List ℕ → List ℕ → ℕ

@@ -7,11 +7,10 @@ ghost use lib.Dec.{eqb};
 ghost use lib.Bits.{bitOr};
 ghost use lib.ListN.{length, getD, set};
 ghost use Rattle.whole.specs.Search.{pick, every};
-ghost use Rattle.corridor.specs.Layout.{cells, rampAt, stateLength, demandLength};
-ghost use Rattle.corridor.specs.Checks.{least};
+ghost use Rattle.layout.specs.Layout.{cells, rampAt, stateLength, demandLength};
+ghost use Rattle.refusals.specs.Checks.{least};
 ghost use Rattle.corridor.specs.Acceptance.{withRamp, givenOff, rowInRange, roomShared, rowsInRange, roomsShared, rampsOnce, stateFits, stateInRange, demandFits, demandInRange, queueHolds, queuesHold};
-use crate::Row;
-use crate::layout::*;
+use layout::*;
 use whole::within;
 
 // A bound where there is a ramp; 0 where there is none.

@@ -1,95 +1,20 @@
-// The corridor's lists: the row as a struct, where each number stands in a table, a state and a demand row, and what
-// is refused of them, by document 01's numbers 1 to 7.
+// What is refused of the corridor's lists, by document 01's numbers 1 to 7: a table, a state under it, and a demand row under both.
 ghost use mathlib.Core.Path.{_≡_};
 ghost use mathlib.Core.List.{[], _∷_};
 ghost use Prim.Native.Nat.{_≤_};
 ghost use lib.Dec.{eqb};
 ghost use lib.ListN.{length};
 ghost use Rattle.whole.specs.Search.{pick};
-ghost use Rattle.corridor.specs.declared.Answer.the-variants.{Accepted};
-ghost use Rattle.corridor.specs.Layout.{cells, stateLength, demandLength};
-ghost use Rattle.corridor.specs.Checks.{answer};
+ghost use Rattle.refusals.specs.declared.Answer.the-variants.{Accepted};
+ghost use Rattle.layout.specs.Layout.{cells, stateLength, demandLength};
+ghost use Rattle.refusals.specs.Checks.{answer};
 ghost use Rattle.corridor.specs.Acceptance.{tableLengthFits, stateLengthsFit, rowLengthsFit, rowsInRange, roomsShared, rampsOnce, tableNumbers, stateNumbers, demandNumbers, tableChecks, stateChecks, rowChecks, demandChecks, stateAloneChecks, bothTables, bothTablesChecks};
-ghost use Rattle.corridor.specs.Refusals.{numberOf, placeOf};
 
 mod checks;
-pub mod layout;
 
 use layout::cells;
-
-// One row of a cell table, in document 01's order of columns.
-pub struct Row {
-    pub v: u32,
-    pub w: u32,
-    pub capacity: u32,
-    pub jam: u32,
-    pub on: u32,
-    pub x: u32,
-    pub c: u32,
-    pub off: u32,
-    pub b: u32,
-}
-
-// A refusal for each number of document 01, with its place.
-pub enum Refusal {
-    Length,
-    TableNumber(usize),
-    RoomShares(usize),
-    RampAgain(usize),
-    StateNumber(usize),
-    Demand(usize),
-    QueueOver(usize),
-    Pieces(usize),
-    Sample(usize),
-    Fit,
-    RowValue(usize),
-    Record(usize),
-}
-
-pub enum Answer {
-    Accepted,
-    Refused(Refusal),
-}
-
-// Document 01's number of a refusal.
-pub fn number(refusal: Refusal) -> u32
-    ensures { λ r. ⌜ r ≡ numberOf refusal ⌝ }
-{
-    match refusal {
-        Refusal::Length => 1,
-        Refusal::TableNumber(_) => 2,
-        Refusal::RoomShares(_) => 3,
-        Refusal::RampAgain(_) => 4,
-        Refusal::StateNumber(_) => 5,
-        Refusal::Demand(_) => 6,
-        Refusal::QueueOver(_) => 7,
-        Refusal::Pieces(_) => 8,
-        Refusal::Sample(_) => 9,
-        Refusal::Fit => 10,
-        Refusal::RowValue(_) => 11,
-        Refusal::Record(_) => 12,
-    }
-}
-
-// The place of a refusal: a cell, a sample, a value or a record, counted from 1, or 0.
-pub fn place(refusal: Refusal) -> usize
-    ensures { λ r. ⌜ r ≡ placeOf refusal ⌝ }
-{
-    match refusal {
-        Refusal::Length => 0,
-        Refusal::TableNumber(cell) => cell,
-        Refusal::RoomShares(cell) => cell,
-        Refusal::RampAgain(cell) => cell,
-        Refusal::StateNumber(cell) => cell,
-        Refusal::Demand(cell) => cell,
-        Refusal::QueueOver(cell) => cell,
-        Refusal::Pieces(cell) => cell,
-        Refusal::Sample(sample) => sample,
-        Refusal::Fit => 0,
-        Refusal::RowValue(value) => value,
-        Refusal::Record(record) => record,
-    }
-}
+use refusals::Answer;
+use refusals::Refusal;
 
 // Number 1 of a table.
 fn table_length_fits(table: &[u32]) -> bool

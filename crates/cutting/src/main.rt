@@ -1,8 +1,8 @@
 // Cuts a cell with an on-ramp and an off-ramp into three under a running corridor, and shows that nothing is lost: the shares sum to the
 // old count, the queue stands on the first piece and the off-ramp on the last, and the periods go on.
-use corridor::Answer;
-use corridor::layout::cells;
-use corridor::layout::ramp_at;
+use layout::cells;
+use layout::ramp_at;
+use refusals::Answer;
 
 // One cell with on-ramp 11 and off-ramp 12, in the columns v, w, F, J, on, x, c, off, b.
 const OLD: [u32; 9] = [16_384, 8_192, 2_000, 12_000, 11, 16_384, 500, 12, 16_384];

@@ -9,13 +9,12 @@ use lib.Dec.{lit<}
 use lib.Ieee.{Float}
 use lib.ListN.{length}
 use Rattle.whole.proofs.Search.{all-pass}
-use Rattle.corridor.specs.declared.Refusal.{Refusal}
-use Rattle.corridor.specs.declared.Answer.{Answer}
-use Rattle.corridor.specs.declared.Answer.the-variants.{Accepted, Refused}
-use Rattle.corridor.specs.Checks.{Check, least, orLater, answer}
-use Rattle.corridor.specs.Acceptance.{lengths}
+use Rattle.refusals.specs.declared.Refusal.{Refusal}
+use Rattle.refusals.specs.declared.Answer.{Answer}
+use Rattle.refusals.specs.declared.Answer.the-variants.{Accepted, Refused}
+use Rattle.refusals.specs.Checks.{Check, least, orLater, answer, lengths}
 use Rattle.corridor.proofs.Ranges.{both-hold}
-use Rattle.corridor.proofs.Answers.{refused-stays, accepted-goes-on}
+use Rattle.refusals.proofs.Answers.{refused-stays, accepted-goes-on}
 use Rattle.diagram.specs.declared.Settings.{Settings}
 use Rattle.diagram.specs.declared.Sample.{Sample}
 use Rattle.diagram.specs.declared.Diagram.{Diagram}

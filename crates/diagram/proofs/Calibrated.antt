@@ -14,11 +14,11 @@ use lib.Ieee.Positive as positive
 use lib.ListN.{length, take, drop, length-take, length-drop}
 use Rattle.whole.specs.Search.{pick, within}
 use Rattle.whole.proofs.Search.{all-pass}
-use Rattle.corridor.specs.declared.Row.{Row}
-use Rattle.corridor.specs.declared.Answer.{Answer}
-use Rattle.corridor.specs.declared.Answer.the-variants.{Accepted, Refused}
-use Rattle.corridor.specs.Checks.{Check, least, orLater, answer}
-use Rattle.corridor.specs.Acceptance.{lengths, rowInRange}
+use Rattle.layout.specs.declared.Row.{Row}
+use Rattle.refusals.specs.declared.Answer.{Answer}
+use Rattle.refusals.specs.declared.Answer.the-variants.{Accepted, Refused}
+use Rattle.refusals.specs.Checks.{Check, least, orLater, answer, lengths}
+use Rattle.corridor.specs.Acceptance.{rowInRange}
 use Rattle.corridor.proofs.Ranges.{both-hold}
 use Rattle.diagram.specs.declared.Settings.{Settings}
 use Rattle.diagram.specs.declared.Sample.{Sample}

@@ -4,9 +4,9 @@ use mathlib.Core.Path.{_≡_, refl, sym, ap, _∙_}
 use mathlib.Core.Bool.{Bool, true, false, not, _&&_, _||_, false≢true}
 use mathlib.Core.List.{List, [], _∷_}
 use lib.Ieee.{Float, ofInt, eq}
-use Rattle.corridor.specs.declared.Refusal.the-variants.{Fit}
-use Rattle.corridor.specs.declared.Answer.the-variants.{Accepted}
-use Rattle.corridor.specs.Checks.{answer}
+use Rattle.refusals.specs.declared.Refusal.the-variants.{Fit}
+use Rattle.refusals.specs.declared.Answer.the-variants.{Accepted}
+use Rattle.refusals.specs.Checks.{answer}
 use Rattle.diagram.specs.declared.FitAnswer.the-variants.{Fitted, NotFitted}
 use Rattle.diagram.specs.declared.Sample.{Sample}
 use Rattle.diagram.specs.declared.Sums.{Sums}

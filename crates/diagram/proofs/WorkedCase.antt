@@ -3,7 +3,7 @@
 use mathlib.Core.Path.{_≡_, refl}
 use mathlib.Core.List.{List, [], _∷_}
 use lib.Ieee.{Float, ofInt, add, sub, mul, div, lt, le, eq}
-use Rattle.corridor.specs.Checks.{orLater}
+use Rattle.refusals.specs.Checks.{orLater}
 use Rattle.diagram.specs.declared.Settings.{Settings}
 use Rattle.diagram.specs.declared.Diagram.{Diagram}
 use Rattle.diagram.specs.declared.RowNumbers.{RowNumbers}

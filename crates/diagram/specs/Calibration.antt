@@ -6,11 +6,10 @@ use lib.Dec.{leb, eqb}
 use lib.Ieee.{Float}
 use lib.ListN.{length, getD}
 use Rattle.whole.specs.Sums.{atPosition}
-use Rattle.corridor.specs.declared.Refusal.the-variants.{Sample, Fit, RowValue}
-use Rattle.corridor.specs.declared.Answer.{Answer}
-use Rattle.corridor.specs.declared.Answer.the-variants.{Accepted, Refused}
-use Rattle.corridor.specs.Checks.{Check, answer}
-use Rattle.corridor.specs.Acceptance.{lengths}
+use Rattle.refusals.specs.declared.Refusal.the-variants.{Sample, Fit, RowValue}
+use Rattle.refusals.specs.declared.Answer.{Answer}
+use Rattle.refusals.specs.declared.Answer.the-variants.{Accepted, Refused}
+use Rattle.refusals.specs.Checks.{Check, answer, lengths}
 use Rattle.diagram.specs.declared.Settings.{Settings}
 use Rattle.diagram.specs.declared.Diagram.{Diagram}
 use Rattle.diagram.specs.declared.RowValues.{RowValues}

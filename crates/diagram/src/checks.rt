@@ -3,7 +3,7 @@
 ghost use mathlib.Core.Path.{_≡_};
 ghost use Prim.Native.Nat.{_<_};
 ghost use lib.ListN.{length};
-ghost use Rattle.corridor.specs.Checks.{least};
+ghost use Rattle.refusals.specs.Checks.{least};
 ghost use Rattle.diagram.specs.Samples.{usable, samples};
 ghost use Rattle.diagram.specs.Diagrams.{largestFlow};
 ghost use Rattle.diagram.specs.Calibration.{lengthsFit, cellSettingsFit, settingsFit, samplesUsable, valuesFit};

@@ -6,7 +6,7 @@ ghost use mathlib.Core.Bool.{false, _&&_};
 ghost use mathlib.Core.List.{[], _∷_};
 ghost use lib.Ieee.{Float};
 ghost use lib.ListN.{length};
-ghost use Rattle.corridor.specs.Checks.{answer};
+ghost use Rattle.refusals.specs.Checks.{answer};
 ghost use Rattle.diagram.specs.declared.Sample.the-variants.{Unusable};
 ghost use Rattle.diagram.specs.Samples.{flowInRange, occupancyInRange, sampleOf, sampleAt, samples};
 ghost use Rattle.diagram.specs.Diagrams.{largestFlow};
@@ -17,7 +17,7 @@ mod doubles;
 mod row;
 mod totals;
 
-use corridor::Refusal;
+use refusals::Refusal;
 
 // What a calibration is told beside its samples: the effective vehicle length g in miles, the lanes, the period T in whole
 // seconds, the cell's length L in miles, and the stretch of samples in free flow, counted from 0, the end not included.

@@ -1,7 +1,7 @@
 -- Every starred figure of document 01 holds, by computation. Assumes nothing.
 use mathlib.Core.Path.{_≡_, refl}
 use mathlib.Core.Bool.{true}
-use Rattle.corridor.specs.Checks.{orLater}
+use Rattle.refusals.specs.Checks.{orLater}
 use Rattle.corridor.specs.Acceptance.{rowInRange}
 use Rattle.period.specs.Cell.{M, leaving, offFlow}
 use Rattle.period.specs.Period.{flowAt, offFlowAt, onFlowAt, countAfter, entryQueueAfter, queueAfter, freeAt, sheetOf, stateAfter}

@@ -10,15 +10,16 @@ use lib.Ieee.{Float}
 use lib.ListN.{length}
 use Rattle.whole.specs.Search.{pick}
 use Rattle.whole.proofs.Search.{is-first}
-use Rattle.corridor.specs.declared.Answer.{Answer}
-use Rattle.corridor.specs.declared.Answer.the-variants.{Accepted, Refused}
-use Rattle.corridor.specs.Layout.{cells, demandLength}
-use Rattle.corridor.specs.Refusals.{placeOf}
-use Rattle.corridor.specs.Checks.{Check, least, orLater, answer, whenAccepted}
-use Rattle.corridor.specs.Acceptance.{tableLengthFits, stateLengthsFit, rowLengthsFit, lengths, tableNumbers, stateInRange, stateNumbers, demandNumbers, tableChecks, stateChecks, rowChecks, bothTables}
-use Rattle.corridor.proofs.Answers.{accepted-passes}
+use Rattle.refusals.specs.declared.Answer.{Answer}
+use Rattle.refusals.specs.declared.Answer.the-variants.{Accepted, Refused}
+use Rattle.layout.specs.Layout.{cells, demandLength}
+use Rattle.refusals.specs.Refusals.{placeOf}
+use Rattle.refusals.specs.Checks.{Check, least, orLater, answer, whenAccepted, lengths}
+use Rattle.corridor.specs.Acceptance.{tableLengthFits, stateLengthsFit, rowLengthsFit, tableNumbers, stateInRange, stateNumbers, demandNumbers, tableChecks, stateChecks, rowChecks, bothTables}
+use Rattle.refusals.proofs.Answers.{accepted-passes}
 use Rattle.corridor.proofs.Ranges.{both-hold, cells-fit}
-use Rattle.period.specs.Period.{sheetLength, periodChecks}
+use Rattle.period.specs.Period.{periodChecks}
+use Rattle.layout.specs.Sheet.{sheetLength}
 use Rattle.run.specs.Run.{rows, rowOf, stateAfterPeriods, runListsFit, runChecks, isAccepted, rowAnswer, completed, rowsAnswer, periodsRun, runAnswer}
 use Rattle.recut.specs.Recut.{recutListsFit, piecesNumbers, recutChecks}
 use Rattle.diagram.specs.declared.Settings.{Settings}

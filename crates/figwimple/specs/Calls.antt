@@ -7,8 +7,8 @@ use lib.Dec.{eqb}
 use lib.Ieee.{Float}
 use lib.ListN.{length}
 use Rattle.whole.specs.Search.{pick}
-use Rattle.corridor.specs.declared.Answer.{Answer}
-use Rattle.corridor.specs.Checks.{answer, whenAccepted}
+use Rattle.refusals.specs.declared.Answer.{Answer}
+use Rattle.refusals.specs.Checks.{answer, whenAccepted}
 use Rattle.period.specs.Period.{periodChecks, PeriodDone}
 use Rattle.run.specs.Run.{periodsRun, runAnswer, stateAfterPeriods, sheetAfterPeriods}
 use Rattle.recut.specs.Recut.{recutChecks, RecutDone}

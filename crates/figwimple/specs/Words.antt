@@ -2,10 +2,10 @@
 use Prim.Native.Nat.{ℕ, _+_, _*_, _<_}
 use mathlib.Core.Bool.{Bool}
 use Rattle.whole.specs.Search.{pick}
-use Rattle.corridor.specs.declared.Refusal.the-variants.{Length}
-use Rattle.corridor.specs.declared.Answer.{Answer}
-use Rattle.corridor.specs.declared.Answer.the-variants.{Accepted, Refused}
-use Rattle.corridor.specs.Refusals.{numberOf, placeOf}
+use Rattle.refusals.specs.declared.Refusal.the-variants.{Length}
+use Rattle.refusals.specs.declared.Answer.{Answer}
+use Rattle.refusals.specs.declared.Answer.the-variants.{Accepted, Refused}
+use Rattle.refusals.specs.Refusals.{numberOf, placeOf}
 
 -- 2^32: the place stands in a word's lower half, the number in its upper half
 abbrev pub HALF : ℕ

@@ -2,16 +2,16 @@
 // further results go to lent lists. Every function takes every input.
 ghost use mathlib.Core.Path.{_≡_};
 ghost use lib.ListN.{length};
-ghost use Rattle.corridor.specs.Checks.{answer};
+ghost use Rattle.refusals.specs.Checks.{answer};
 ghost use Rattle.corridor.specs.Acceptance.{tableChecks, stateChecks, rowChecks};
 ghost use Rattle.figwimple.specs.Words.{wordOf, Placed};
 ghost use Rattle.figwimple.specs.Calls.{PeriodCalled, RunCalled, RecutCalled, settingsOf, fiveOf, fourOf, resultsFit, CalibrateCalled};
-use corridor::Answer;
-use corridor::Refusal;
 use diagram::Calibration;
 use diagram::Diagram;
 use diagram::RowNumbers;
 use diagram::Settings;
+use refusals::Answer;
+use refusals::Refusal;
 
 // The word of an answer whose place is below 2^32.
 fn word(answered: Answer) -> u64
@@ -21,8 +21,8 @@ fn word(answered: Answer) -> u64
     match answered {
         Answer::Accepted => 0,
         Answer::Refused(refusal) => {
-            let number = corridor::number(refusal) as u64;
-            let place = corridor::place(refusal) as u64;
+            let number = refusals::number(refusal) as u64;
+            let place = refusals::place(refusal) as u64;
             number * 4_294_967_296 + place
         }
     }

@@ -5,11 +5,11 @@ use mathlib.Core.Bool.{_&&_, and-true}
 use mathlib.Core.List.{List}
 use native.Mathlib.Omega.{arith}
 use borrow.Author.Tests.{eq-eqb}
-use Rattle.corridor.specs.declared.Answer.{Answer}
-use Rattle.corridor.specs.declared.Answer.the-variants.{Accepted, Refused}
-use Rattle.corridor.specs.Checks.{answer, whenAccepted}
+use Rattle.refusals.specs.declared.Answer.{Answer}
+use Rattle.refusals.specs.declared.Answer.the-variants.{Accepted, Refused}
+use Rattle.refusals.specs.Checks.{answer, whenAccepted}
 use Rattle.corridor.specs.Acceptance.{tableLengthFits, stateNumbers}
-use Rattle.corridor.proofs.Answers.{lengths-passed}
+use Rattle.refusals.proofs.Answers.{lengths-passed}
 use Rattle.recut.specs.Recut.{newState, recutChecks}
 use Rattle.recut.proofs.Facts.{CutFits, cut-fits}
 use Rattle.recut.proofs.Done.{accepted-is-cut}

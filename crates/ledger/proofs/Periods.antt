@@ -9,13 +9,13 @@ use Rattle.whole.specs.Sums.{sum}
 use Rattle.whole.specs.Search.{pick}
 use Rattle.whole.proofs.Sums.{sum-of-sums, sum-of-equal-terms}
 use Rattle.whole.proofs.Search.{is-first}
-use Rattle.corridor.specs.declared.Answer.{Answer}
-use Rattle.corridor.specs.declared.Answer.the-variants.{Accepted, Refused}
-use Rattle.corridor.specs.Layout.{cells, rowAt, queueAt, onDemandAt}
+use Rattle.refusals.specs.declared.Answer.{Answer}
+use Rattle.refusals.specs.declared.Answer.the-variants.{Accepted, Refused}
+use Rattle.layout.specs.Layout.{cells, rowAt, queueAt, onDemandAt}
 use Rattle.corridor.specs.Vehicles.{atOnRamp}
-use Rattle.corridor.specs.Checks.{answer, whenAccepted}
+use Rattle.refusals.specs.Checks.{answer, whenAccepted}
 use Rattle.corridor.specs.Acceptance.{stateLengthsFit, stateNumbers, demandNumbers}
-use Rattle.corridor.proofs.Answers.{accepted-passes, accepted-both, lengths-passed}
+use Rattle.refusals.proofs.Answers.{accepted-passes, accepted-both, lengths-passed}
 use Rattle.period.specs.Sharing.{asymmetric}
 use Rattle.period.specs.Period.{onFlowAt, stateAfter, periodChecks}
 use Rattle.period.specs.Account.{demanded, leftRoad}

@@ -3,10 +3,10 @@ use Prim.Native.Nat.{ℕ, _+_}
 use mathlib.Core.Path.{_≡_}
 use mathlib.Core.List.{List, [], _∷_}
 use Rattle.whole.specs.Sums.{sum}
-use Rattle.corridor.specs.declared.Answer.the-variants.{Accepted}
-use Rattle.corridor.specs.Layout.{cells, queueAt, onDemandAt}
+use Rattle.refusals.specs.declared.Answer.the-variants.{Accepted}
+use Rattle.layout.specs.Layout.{cells, queueAt, onDemandAt}
 use Rattle.corridor.specs.Vehicles.{vehicles, atOnRamp, ramps}
-use Rattle.corridor.specs.Checks.{answer, whenAccepted}
+use Rattle.refusals.specs.Checks.{answer, whenAccepted}
 use Rattle.corridor.specs.Acceptance.{stateChecks}
 use Rattle.period.specs.Sharing.{asymmetric}
 use Rattle.period.specs.Period.{onFlowAt, stateAfter, periodChecks}

@@ -10,12 +10,12 @@ use Rattle.whole.specs.Sums.{sum, atPosition}
 use Rattle.whole.specs.Search.{pick}
 use Rattle.whole.proofs.Search.{Passes}
 use Rattle.whole.proofs.Sums.{sum-of-sums, sum-of-equal-terms, balance}
-use Rattle.corridor.specs.declared.Answer.the-variants.{Accepted}
-use Rattle.corridor.specs.Layout.{cells, rowAt, entryQueue, countAt, queueAt, onDemandAt}
+use Rattle.refusals.specs.declared.Answer.the-variants.{Accepted}
+use Rattle.layout.specs.Layout.{cells, rowAt, entryQueue, countAt, queueAt, onDemandAt}
 use Rattle.corridor.specs.Vehicles.{vehicles}
-use Rattle.corridor.specs.Checks.{answer}
+use Rattle.refusals.specs.Checks.{answer}
 use Rattle.corridor.specs.Acceptance.{withRamp, queueLimit, demandLimit, tableNumbers, stateInRange, stateNumbers, demandNumbers}
-use Rattle.corridor.proofs.Answers.{accepted-both, both-accepted, passes-accepted}
+use Rattle.refusals.proofs.Answers.{accepted-both, both-accepted, passes-accepted}
 use Rattle.corridor.proofs.Accepted.{TableFits, StateFits, RowFits, table-fits, state-fits, row-fits}
 use Rattle.period.specs.Sharing.{Sharing}
 use Rattle.period.specs.Period.{flowAt, offFlowAt, onFlowAt, countAfter, queueAfter, stateAfter}

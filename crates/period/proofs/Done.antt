@@ -4,15 +4,16 @@ use mathlib.Core.Path.{_≡_, sym, _∙_}
 use mathlib.Core.List.{List, _++_}
 use borrow.Author.Tests.{eq-eqb, ne-eqb}
 use lib.ListN.{length}
-use Rattle.corridor.specs.declared.Refusal.{Refusal}
-use Rattle.corridor.specs.declared.Refusal.the-variants.{Length}
-use Rattle.corridor.specs.declared.Answer.the-variants.{Accepted, Refused}
-use Rattle.corridor.specs.Layout.{cells}
-use Rattle.corridor.specs.Checks.{answer}
+use Rattle.refusals.specs.declared.Refusal.{Refusal}
+use Rattle.refusals.specs.declared.Refusal.the-variants.{Length}
+use Rattle.refusals.specs.declared.Answer.the-variants.{Accepted, Refused}
+use Rattle.layout.specs.Layout.{cells}
+use Rattle.refusals.specs.Checks.{answer}
 use Rattle.corridor.specs.Acceptance.{rowLengthsFit, stateNumbers, demandNumbers, rowChecks}
-use Rattle.corridor.proofs.Answers.{length-fails, length-fits-too}
+use Rattle.refusals.proofs.Answers.{length-fails, length-fits-too}
 use Rattle.period.specs.Sharing.{asymmetric}
-use Rattle.period.specs.Period.{sheetLength, sheetOf, stateAfter, periodChecks, PeriodDone}
+use Rattle.period.specs.Period.{sheetOf, stateAfter, periodChecks, PeriodDone}
+use Rattle.layout.specs.Sheet.{sheetLength}
 
 module _ (table state demand sheet : List ℕ) where
   refused : {refusal : Refusal} → Refused refusal ≡ answer (periodChecks table state demand sheet) → PeriodDone table state demand sheet (Refused refusal) state sheet

@@ -4,11 +4,9 @@ use mathlib.Core.List.{List, [], _∷_}
 use Prim.Native.Nat.{ℕ, _≤_, _<_}
 use lib.ListN.{length}
 use native.Mathlib.Omega.{arith}
-use Rattle.corridor.specs.declared.Answer.the-variants.{Accepted}
-use Rattle.corridor.specs.Layout.{cells, rowAt, countAt, stateLength, demandLength}
-use Rattle.corridor.specs.Checks.{answer}
+use Rattle.layout.specs.Layout.{cells, rowAt, countAt, stateLength, demandLength}
 use Rattle.corridor.specs.Acceptance.{tableNumbers, stateInRange, stateNumbers, demandNumbers}
-use Rattle.corridor.proofs.Answers.{accepted-passes, accepted-both}
+use Rattle.refusals.proofs.Answers.{accepted-passes, accepted-both}
 use Rattle.corridor.proofs.Ranges.{row-lengths, with-ramp-at-most}
 use Rattle.corridor.proofs.Accepted.{TableFits, StateFits, RowFits, table-fits, state-fits, row-fits}
 use Rattle.period.specs.Period.{RowAccepted}
@@ -16,8 +14,6 @@ use Rattle.period.specs.Period.{RowAccepted}
 pub record Facts (table state demand : List ℕ) : Type 0 where
   pub state-length : length state ≡ stateLength (cells table)
   pub demand-length : length demand ≡ demandLength (cells table)
-  pub state-accepted : answer (stateNumbers table state) ≡ Accepted
-  pub row-accepted : answer (demandNumbers table state demand) ≡ Accepted
   pub t : TableFits table
   pub s : StateFits table state
   pub d : RowFits table state demand
@@ -30,8 +26,6 @@ facts table state demand e =
     record {
       state-length = lengths .0;
       demand-length = lengths .1;
-      state-accepted = numbers .0;
-      row-accepted = numbers .1;
       t = table-fits table (accepted-both (tableNumbers table) (stateInRange table state ∷ []) (numbers .0) .0);
       s = state-fits table state (numbers .0);
       d = row-fits table state demand (numbers .1);

@@ -8,7 +8,7 @@ use lib.Dec.{eqb, leb}
 use Rattle.whole.specs.Share.{ONE, share}
 use Rattle.whole.specs.Search.{pick}
 use Rattle.whole.proofs.Shares.{share-within, part-within, shares-fit}
-use Rattle.corridor.specs.declared.Row.{Row}
+use Rattle.layout.specs.declared.Row.{Row}
 use Rattle.period.specs.Cell.{D, M, leaving, offFlow}
 use Rattle.period.specs.Sharing.{Sharing, asymmetric}
 

@@ -12,14 +12,14 @@ use lib.Seq.{getD-set-same, getD-set-other}
 use Rattle.whole.specs.Lists.{build}
 use Rattle.whole.specs.Search.{pick}
 use Rattle.whole.proofs.Columns.{Column, column-none, column-more, column-stays, column-then, column-last}
-use Rattle.corridor.specs.declared.Row.{Row}
-use Rattle.corridor.specs.Layout.{cells, rowAt, entryQueue, countAt, queueAt, entryDemand, onDemandAt, offDemandAt}
+use Rattle.layout.specs.declared.Row.{Row}
+use Rattle.layout.specs.Layout.{cells, rowAt, entryQueue, countAt, queueAt, entryDemand, onDemandAt, offDemandAt}
 use Rattle.corridor.proofs.Accepted.{TableFits, RowFits}
-use Rattle.period.specs.declared.Flows.{Flows}
+use Rattle.layout.specs.declared.Flows.{Flows}
 use Rattle.period.specs.Cell.{R, offFlow, flowsUpTo}
 use Rattle.period.specs.Sharing.{asymmetric}
-use Rattle.period.specs.Sheet.{withFlows, withEntryFlow}
-use Rattle.period.specs.Period.{flowAt, offFlowAt, onFlowAt, freeAt, modeAt, sheetOf, sheetLength}
+use Rattle.layout.specs.Sheet.{withFlows, withEntryFlow, sheetLength}
+use Rattle.period.specs.Period.{flowAt, offFlowAt, onFlowAt, freeAt, modeAt, sheetOf}
 
 -- the room of the cell of index i; past the last one, more than any flow
 abbrev pub roomAhead : List ℕ → List ℕ → ℕ → ℕ

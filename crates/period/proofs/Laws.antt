@@ -7,7 +7,7 @@ use native.Mathlib.Omega.{arith}
 use borrow.Author.Tests.{lt-ltb}
 use lib.Dec.{ltb}
 use Rattle.whole.specs.Search.{pick}
-use Rattle.corridor.specs.Layout.{cells, rowAt, entryQueue, countAt, queueAt, entryDemand, onDemandAt, offDemandAt}
+use Rattle.layout.specs.Layout.{cells, rowAt, entryQueue, countAt, queueAt, entryDemand, onDemandAt, offDemandAt}
 use Rattle.corridor.proofs.Accepted.{TableFits, StateFits, RowFits}
 use Rattle.period.specs.Sharing.{Sharing}
 use Rattle.period.specs.Period.{offerAt, rampOfferAt, flowAt, offFlowAt, onFlowAt, countAfter, entryQueueAfter, queueAfter}

@@ -6,11 +6,11 @@ use native.Mathlib.Omega.{arith}
 use lib.ListN.{length, getD, length-append}
 use Rattle.whole.specs.Lists.{build}
 use Rattle.whole.proofs.Lists.{build-length, at-build, past-build}
-use Rattle.corridor.specs.Layout.{cells, stateLength, entryQueue, countAt, queueAt}
-use Rattle.corridor.proofs.States.{laid-length, laid-entry, laid-count, laid-queue}
+use Rattle.layout.specs.Layout.{cells, stateLength, entryQueue, countAt, queueAt}
+use Rattle.layout.proofs.States.{laid-length, laid-entry, laid-count, laid-queue}
 use Rattle.period.specs.Sharing.{Sharing}
-use Rattle.period.specs.Sheet.{flowIn, offFlowIn, onFlowIn}
-use Rattle.period.specs.Period.{flowAt, offFlowAt, onFlowAt, countAfter, entryQueueAfter, queueAfter, sheetLength, sheetOf, stateAfter}
+use Rattle.layout.specs.Sheet.{flowIn, offFlowIn, onFlowIn, sheetLength}
+use Rattle.period.specs.Period.{flowAt, offFlowAt, onFlowAt, countAfter, entryQueueAfter, queueAfter, sheetOf, stateAfter}
 
 module _ (way : Sharing) (table state demand : List ℕ) where
   abbrev after : List ℕ

@@ -5,11 +5,11 @@ use mathlib.Core.Bool.{true, _&&_, and-true}
 use mathlib.Core.List.{List, _++_}
 use borrow.Author.Tests.{eq-eqb}
 use lib.ListN.{length}
-use Rattle.corridor.specs.declared.Answer.the-variants.{Accepted}
-use Rattle.corridor.specs.Layout.{cells, stateLength, demandLength}
-use Rattle.corridor.specs.Checks.{answer}
+use Rattle.refusals.specs.declared.Answer.the-variants.{Accepted}
+use Rattle.layout.specs.Layout.{cells, stateLength, demandLength}
+use Rattle.refusals.specs.Checks.{answer}
 use Rattle.corridor.specs.Acceptance.{tableLengthFits, stateLengthsFit, rowLengthsFit, stateNumbers, demandNumbers, demandChecks}
-use Rattle.corridor.proofs.Answers.{lengths-passed, both-accepted}
+use Rattle.refusals.proofs.Answers.{lengths-passed, both-accepted}
 use Rattle.corridor.proofs.Ranges.{both-hold}
 use Rattle.period.specs.Period.{RowAccepted}
 

@@ -3,21 +3,13 @@ use Prim.Native.Nat.{ℕ}
 use mathlib.Core.Path.{_≡_, ap, sym, _∙_}
 use mathlib.Core.List.{List}
 use denote.Ref.{now}
-use Rattle.whole.proofs.Settles.{Settles, SettlesLists, settled}
-use Rattle.corridor.specs.declared.Answer.{Answer}
-use Rattle.corridor.specs.Checks.{whenAccepted}
+use Rattle.whole.proofs.Settles.{SettlesLists, settled}
+use Rattle.refusals.specs.declared.Answer.{Answer}
+use Rattle.refusals.specs.Checks.{whenAccepted}
 use Rattle.period.proofs.period.Kinds as period-kinds
 use Rattle.period.proofs.period.Reads as period
 use Rattle.period.proofs.run_row.Kinds as run-row-kinds
 use Rattle.period.proofs.run_row.Reads as run-row
-use Rattle.period.proofs.sheet.flow_in.Kinds as flow-in-kinds
-use Rattle.period.proofs.sheet.flow_in.Reads as flow-in
-use Rattle.period.proofs.sheet.off_flow_in.Kinds as off-flow-in-kinds
-use Rattle.period.proofs.sheet.off_flow_in.Reads as off-flow-in
-use Rattle.period.proofs.sheet.on_flow_in.Kinds as on-flow-in-kinds
-use Rattle.period.proofs.sheet.on_flow_in.Reads as on-flow-in
-use Rattle.period.proofs.sheet.mode_in.Kinds as mode-in-kinds
-use Rattle.period.proofs.sheet.mode_in.Reads as mode-in
 
 pub period-settles : SettlesLists _ period-kinds.ps period-kinds.r (List ℕ × List ℕ) (λ κs e. (now (e .1 .0), now (e .1 .1 .1 .0))) period.Learnt
 period-settles κs a y z e f p q =
@@ -31,17 +23,3 @@ pub run-row-settles : SettlesLists _ run-row-kinds.ps run-row-kinds.r (List ℕ 
 run-row-settles κs a y z e f p q =
     let same = settled (p .answered) (q .answered) in
     (same, λ i. (by-answer _ _ same (p .leavesState) (q .leavesState) i, by-answer _ _ same (p .leavesSheet) (q .leavesSheet) i))
-
--- the readers of single numbers of a sheet
-
-pub flow-in-settles : Settles _ flow-in-kinds.ps flow-in-kinds.r flow-in.Learnt
-flow-in-settles κs a y z e f = settled
-
-pub off-flow-in-settles : Settles _ off-flow-in-kinds.ps off-flow-in-kinds.r off-flow-in.Learnt
-off-flow-in-settles κs a y z e f = settled
-
-pub on-flow-in-settles : Settles _ on-flow-in-kinds.ps on-flow-in-kinds.r on-flow-in.Learnt
-on-flow-in-settles κs a y z e f = settled
-
-pub mode-in-settles : Settles _ mode-in-kinds.ps mode-in-kinds.r mode-in.Learnt
-mode-in-settles κs a y z e f = settled

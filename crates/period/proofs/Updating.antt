@@ -9,10 +9,10 @@ use lib.ListN.{length, getD, set, length-set}
 use lib.Seq.{getD-set-same, getD-set-other}
 use Rattle.whole.specs.Sums.{atPosition}
 use Rattle.whole.proofs.Columns.{Column, column-none, column-more, column-stays, column-part}
-use Rattle.corridor.specs.Layout.{cells, stateLength, entryQueue, countAt, queueAt, entryDemand, onDemandAt}
-use Rattle.corridor.proofs.States.{whole-state}
+use Rattle.layout.specs.Layout.{cells, stateLength, entryQueue, countAt, queueAt, entryDemand, onDemandAt}
+use Rattle.layout.proofs.States.{whole-state}
 use Rattle.period.specs.Sharing.{asymmetric}
-use Rattle.period.specs.Sheet.{flowIn, offFlowIn, onFlowIn}
+use Rattle.layout.specs.Sheet.{flowIn, offFlowIn, onFlowIn}
 use Rattle.period.specs.Period.{flowAt, offFlowAt, onFlowAt, countAfter, entryQueueAfter, queueAfter, sheetOf, stateAfter}
 use Rattle.period.proofs.Fair.{asymmetric-is-fair}
 use Rattle.period.proofs.Reading.{sheet-flow, sheet-off, sheet-on}

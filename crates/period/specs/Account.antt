@@ -2,7 +2,7 @@
 use Prim.Native.Nat.{ℕ, _+_}
 use mathlib.Core.List.{List}
 use Rattle.whole.specs.Sums.{sum}
-use Rattle.corridor.specs.Layout.{cells, entryDemand, onDemandAt}
+use Rattle.layout.specs.Layout.{cells, entryDemand, onDemandAt}
 use Rattle.period.specs.Sharing.{Sharing}
 use Rattle.period.specs.Period.{flowAt, offFlowAt}
 

@@ -4,8 +4,8 @@ use Prim.Native.Nat.{ℕ, _+_, _-_, _*_, _/_, min}
 use lib.Dec.{eqb, leb, ltb}
 use Rattle.whole.specs.Share.{ONE, share}
 use Rattle.whole.specs.Search.{pick}
-use Rattle.corridor.specs.declared.Row.{Row}
-use Rattle.period.specs.declared.Flows.{Flows}
+use Rattle.layout.specs.declared.Row.{Row}
+use Rattle.layout.specs.declared.Flows.{Flows}
 
 -- 1. D = v·n / ONE
 abbrev pub D : Row → ℕ → ℕ

@@ -1,5 +1,5 @@
 -- Document 01, "One period": every flow from the state at the period's start, the sheet, and the state after.
-use Prim.Native.Nat.{ℕ, suc, _+_, _-_, _*_}
+use Prim.Native.Nat.{ℕ, suc, _+_, _-_}
 use mathlib.Core.Path.{_≡_}
 use mathlib.Core.Bool.{Bool, _&&_}
 use mathlib.Core.List.{List, _∷_, _++_}
@@ -8,11 +8,12 @@ use lib.ListN.{length}
 use Rattle.whole.specs.Lists.{build}
 use Rattle.whole.specs.Sums.{atPosition}
 use Rattle.whole.specs.Search.{pick}
-use Rattle.corridor.specs.declared.Answer.{Answer}
-use Rattle.corridor.specs.declared.Answer.the-variants.{Accepted}
-use Rattle.corridor.specs.Layout.{cells, rowAt, entryQueue, countAt, queueAt, entryDemand, onDemandAt, offDemandAt}
-use Rattle.corridor.specs.Checks.{Check, answer, whenAccepted}
-use Rattle.corridor.specs.Acceptance.{rowLengthsFit, lengths, stateNumbers, demandNumbers, rowChecks}
+use Rattle.refusals.specs.declared.Answer.{Answer}
+use Rattle.refusals.specs.declared.Answer.the-variants.{Accepted}
+use Rattle.layout.specs.Layout.{cells, rowAt, entryQueue, countAt, queueAt, entryDemand, onDemandAt, offDemandAt}
+use Rattle.layout.specs.Sheet.{sheetLength}
+use Rattle.refusals.specs.Checks.{Check, answer, whenAccepted, lengths}
+use Rattle.corridor.specs.Acceptance.{rowLengthsFit, stateNumbers, demandNumbers, rowChecks}
 use Rattle.period.specs.Cell.{M, capacityNow, offered, rampOffered, offFlow}
 use Rattle.period.specs.Sharing.{Sharing, asymmetric}
 
@@ -69,9 +70,6 @@ module _ (way : Sharing) (table state demand : List ℕ) where
   -- the state after: Q and the counts, then the on-ramp queues
   unfoldable pub stateAfter : List ℕ
   stateAfter = build (suc (cells table)) (atPosition entryQueueAfter countAfter) ++ build (cells table) queueAfter
-
-abbrev pub sheetLength : ℕ → ℕ
-sheetLength n = 4 * n + 1
 
 -- numbers 1 to 7 of a period
 abbrev pub periodChecks : List ℕ → List ℕ → List ℕ → List ℕ → List Check

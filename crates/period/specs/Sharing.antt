@@ -4,7 +4,7 @@ use Prim.Native.Nat.{ℕ, _-_, min}
 use mathlib.Core.Bool.{Bool}
 use lib.Dec.{ltb}
 use Rattle.whole.specs.Share.{share}
-use Rattle.corridor.specs.declared.Row.{Row}
+use Rattle.layout.specs.declared.Row.{Row}
 use Rattle.period.specs.Cell.{R}
 
 pub record Sharing : Type 0 where

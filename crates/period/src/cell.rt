@@ -4,8 +4,8 @@ ghost use Prim.Native.Nat.{_≤_, _<_};
 ghost use lib.Dec.{ltb};
 ghost use Rattle.whole.specs.Search.{pick};
 ghost use Rattle.period.specs.Cell.{D, R, M, leaving, offFlow, onFlow, flowsUpTo};
-use crate::Flows;
-use corridor::Row;
+use layout::Flows;
+use layout::Row;
 use whole::least;
 use whole::share;
 

@@ -3,26 +3,18 @@
 ghost use mathlib.Core.Path.{_≡_};
 ghost use lib.ListN.{length};
 ghost use mathlib.Core.Bool.{true};
-ghost use Rattle.corridor.specs.Layout.{cells, demandLength};
-ghost use Rattle.corridor.specs.Checks.{answer};
+ghost use Rattle.layout.specs.Layout.{cells, demandLength};
+ghost use Rattle.refusals.specs.Checks.{answer};
 ghost use Rattle.corridor.specs.Acceptance.{stateLengthsFit, stateNumbers};
-ghost use Rattle.period.specs.Period.{sheetLength, PeriodDone, RowDone};
+ghost use Rattle.period.specs.Period.{PeriodDone, RowDone};
+ghost use Rattle.layout.specs.Sheet.{sheetLength};
 
 mod cell;
-pub mod sheet;
 mod steps;
 
-use corridor::Answer;
-use corridor::Refusal;
-use corridor::layout::cells;
-
-// What one cell does in a period: flow out f, off-ramp s, on-ramp r, and the mode.
-pub struct Flows {
-    pub f: u32,
-    pub s: u32,
-    pub r: u32,
-    pub mode: u32,
-}
+use layout::cells;
+use refusals::Answer;
+use refusals::Refusal;
 
 // One period: numbers 1 to 7. On a refusal every list stays as it came.
 pub fn period(table: &[u32], state: &mut [u32], demand: &[u32], sheet: &mut [u32]) -> Answer
@@ -35,8 +27,7 @@ pub fn period(table: &[u32], state: &mut [u32], demand: &[u32], sheet: &mut [u32
     if let Answer::Refused(refusal) = found {
         return Answer::Refused(refusal);
     }
-    steps::flows(table, state, demand, sheet);
-    steps::bring_up_to_date(table, state, demand, sheet);
+    steps::move_on(table, state, demand, sheet);
     Answer::Accepted
 }
 
@@ -52,7 +43,6 @@ pub fn run_row(table: &[u32], state: &mut [u32], row: &[u32], sheet: &mut [u32])
     if let Answer::Refused(refusal) = found {
         return Answer::Refused(refusal);
     }
-    steps::flows(table, state, row, sheet);
-    steps::bring_up_to_date(table, state, row, sheet);
+    steps::move_on(table, state, row, sheet);
     Answer::Accepted
 }

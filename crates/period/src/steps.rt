@@ -2,18 +2,19 @@
 ghost use mathlib.Core.Path.{_≡_};
 ghost use Prim.Native.Nat.{_+_, _-_, _≤_};
 ghost use lib.ListN.{length};
-ghost use Rattle.corridor.specs.Layout.{cells};
+ghost use Rattle.layout.specs.Layout.{cells};
 ghost use Rattle.period.specs.Sharing.{asymmetric};
-ghost use Rattle.period.specs.Period.{RowAccepted, sheetLength, sheetOf, stateAfter};
+ghost use Rattle.period.specs.Period.{RowAccepted, sheetOf, stateAfter};
+ghost use Rattle.layout.specs.Sheet.{sheetLength};
 use crate::cell::cell_flows;
 use crate::cell::room;
-use crate::sheet::*;
-use corridor::layout::*;
+use layout::sheet::*;
+use layout::*;
 use whole::least;
 
 // Every flow, from the old state, into the sheet. The room of the cell just passed bounds the flow of the one upstream of it; past the
 // last cell it is more than any flow.
-pub(crate) fn flows(table: &[u32], state: &[u32], demand: &[u32], sheet: &mut [u32])
+fn flows(table: &[u32], state: &[u32], demand: &[u32], sheet: &mut [u32])
     requires { ⌜ RowAccepted (now table) (now state) (now demand) ⌝ }
     requires { ⌜ length (now sheet) ≡ sheetLength (cells (now table)) ⌝ }
     ensures { λ _. ⌜ now (sheet .exit) ≡ sheetOf asymmetric (now (table .entry)) (now (state .entry)) (now (demand .entry)) ⌝ }
@@ -57,7 +58,7 @@ fn queue_after(queue: u32, demand: u32, flow: u32) -> u32
 }
 
 // The counts and queues, from the old ones and the sheet.
-pub(crate) fn bring_up_to_date(table: &[u32], state: &mut [u32], demand: &[u32], sheet: &[u32])
+fn bring_up_to_date(table: &[u32], state: &mut [u32], demand: &[u32], sheet: &[u32])
     requires { ⌜ RowAccepted (now table) (now state) (now demand) ⌝ }
     requires { ⌜ now sheet ≡ sheetOf asymmetric (now table) (now state) (now demand) ⌝ }
     ensures { λ _. ⌜ now (state .exit) ≡ stateAfter asymmetric (now (table .entry)) (now (state .entry)) (now (demand .entry)) ⌝ }
@@ -80,4 +81,15 @@ pub(crate) fn bring_up_to_date(table: &[u32], state: &mut [u32], demand: &[u32],
     }
     let entry = queue_after(entry_queue(state), entry_demand(demand), flow_in(sheet, 0));
     set_entry_queue(state, entry);
+}
+
+// An accepted period: every flow from the state as it was, then the state.
+pub(crate) fn move_on(table: &[u32], state: &mut [u32], demand: &[u32], sheet: &mut [u32])
+    requires { ⌜ RowAccepted (now table) (now state) (now demand) ⌝ }
+    requires { ⌜ length (now sheet) ≡ sheetLength (cells (now table)) ⌝ }
+    ensures { λ _. ⌜ now (state .exit) ≡ stateAfter asymmetric (now (table .entry)) (now (state .entry)) (now (demand .entry)) ⌝ }
+    ensures { λ _. ⌜ now (sheet .exit) ≡ sheetOf asymmetric (now (table .entry)) (now (state .entry)) (now (demand .entry)) ⌝ }
+{
+    flows(table, state, demand, sheet);
+    bring_up_to_date(table, state, demand, sheet);
 }

@@ -4,11 +4,11 @@ use mathlib.Core.List.{List}
 use Prim.Native.Nat.{ℕ}
 use borrow.Author.Tests.{eq-eqb, ne-eqb}
 use Rattle.whole.specs.Sums.{sum}
-use Rattle.corridor.specs.declared.Answer.{Answer}
-use Rattle.corridor.specs.declared.Answer.the-variants.{Refused}
-use Rattle.corridor.specs.declared.Refusal.the-variants.{Pieces}
-use Rattle.corridor.specs.Layout.{cells}
-use Rattle.corridor.specs.Checks.{orLater}
+use Rattle.refusals.specs.declared.Answer.{Answer}
+use Rattle.refusals.specs.declared.Answer.the-variants.{Refused}
+use Rattle.refusals.specs.declared.Refusal.the-variants.{Pieces}
+use Rattle.layout.specs.Layout.{cells}
+use Rattle.refusals.specs.Checks.{orLater}
 use Rattle.recut.specs.Pieces.{pieceCount}
 use Rattle.recut.specs.Recut.{countsSum}
 

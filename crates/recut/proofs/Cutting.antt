@@ -12,9 +12,9 @@ use lib.Seq.{getD-set-same, getD-set-other}
 use Rattle.whole.specs.Sums.{atPosition}
 use Rattle.whole.specs.Search.{pick}
 use Rattle.whole.proofs.Columns.{Column, column-none, column-longer, column-stays}
-use Rattle.corridor.specs.declared.Row.{Row}
-use Rattle.corridor.specs.Layout.{cells, rowAt, stateLength, entryQueue, countAt, queueAt}
-use Rattle.corridor.proofs.States.{whole-state}
+use Rattle.layout.specs.declared.Row.{Row}
+use Rattle.layout.specs.Layout.{cells, rowAt, stateLength, entryQueue, countAt, queueAt}
+use Rattle.layout.proofs.States.{whole-state}
 use Rattle.recut.specs.declared.Piece.{Piece}
 use Rattle.recut.specs.Pieces.{pieceCount, nextPiece, pieceAt}
 use Rattle.recut.specs.Recut.{pieceVehicles, newCount, newQueue, newState}

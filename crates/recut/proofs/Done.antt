@@ -7,13 +7,13 @@ use native.Mathlib.Omega.{arith}
 use borrow.Author.Tests.{eqb-true, eq-eqb}
 use lib.Dec.{eqb}
 use lib.ListN.{length}
-use Rattle.corridor.specs.declared.Refusal.{Refusal}
-use Rattle.corridor.specs.declared.Refusal.the-variants.{Length}
-use Rattle.corridor.specs.declared.Answer.the-variants.{Accepted, Refused}
-use Rattle.corridor.specs.Layout.{cells, stateLength}
-use Rattle.corridor.specs.Checks.{Check, answer}
+use Rattle.refusals.specs.declared.Refusal.{Refusal}
+use Rattle.refusals.specs.declared.Refusal.the-variants.{Length}
+use Rattle.refusals.specs.declared.Answer.the-variants.{Accepted, Refused}
+use Rattle.layout.specs.Layout.{cells, stateLength}
+use Rattle.refusals.specs.Checks.{Check, answer}
 use Rattle.corridor.specs.Acceptance.{tableLengthFits, stateInRange, bothTables, bothTablesChecks, stateAloneChecks}
-use Rattle.corridor.proofs.Answers.{length-fails, length-fits-too, lengths-passed, refused-stays, accepted-goes-on, accepted-passes, accepted-both}
+use Rattle.refusals.proofs.Answers.{length-fails, length-fits-too, lengths-passed, refused-stays, accepted-goes-on, accepted-passes, accepted-both}
 use Rattle.corridor.proofs.Ranges.{both-hold, cells-fit}
 use Rattle.recut.specs.Recut.{newState, recutListsFit, piecesNumbers, recutChecks, Cut, RecutDone}
 

@@ -10,11 +10,11 @@ use lib.Dec.{eqb}
 use lib.ListN.{length}
 use Rattle.whole.proofs.Sums.{sum-grows}
 use Rattle.whole.proofs.Search.{passes-every}
-use Rattle.corridor.specs.declared.Answer.the-variants.{Accepted}
-use Rattle.corridor.specs.Layout.{cells, rowAt, stateLength, countAt}
-use Rattle.corridor.specs.Checks.{answer}
+use Rattle.refusals.specs.declared.Answer.the-variants.{Accepted}
+use Rattle.layout.specs.Layout.{cells, rowAt, stateLength, countAt}
+use Rattle.refusals.specs.Checks.{answer}
 use Rattle.corridor.specs.Acceptance.{tableLengthFits, tableNumbers, rowsInRange, roomsShared, rampsOnce, stateInRange}
-use Rattle.corridor.proofs.Answers.{accepted-passes, passes-accepted, both-accepted}
+use Rattle.refusals.proofs.Answers.{accepted-passes, passes-accepted, both-accepted}
 use Rattle.corridor.proofs.Ranges.{Between, both-hold, cells-fit, state-length}
 use Rattle.corridor.proofs.Accepted.{TableFits, StateFits, table-fits, state-fits}
 use Rattle.recut.specs.declared.Piece.{Piece}
@@ -55,14 +55,11 @@ cell-cut old pieces new i e =
     }
 
 pub record CutFits (old state pieces new : List ℕ) : Type 0 where
-  pub old-numbers : answer (tableNumbers old) ≡ Accepted
   pub new-numbers : answer (tableNumbers new) ≡ Accepted
-  pub old-length : tableLengthFits old ≡ true
   pub new-length : tableLengthFits new ≡ true
   pub new-cells : Between 1 512 (cells new)
   pub state-fits-it : StateFits old state
   pub old-fits : TableFits old
-  pub new-fits : TableFits new
   pub counts : length pieces ≡ cells old
   pub sums : firstPiece pieces (cells old) ≡ cells new
   pub each : (i : ℕ) → i < cells old → CellCut old pieces new i
@@ -81,14 +78,11 @@ cut-fits old state pieces new (tables, numbers, len, eighth) =
     let news : answer (tableNumbers new) ≡ Accepted = passes-accepted (rowsInRange new) _ (rows′ .0) (passes-accepted (roomsShared new) _ (rooms′ .0) (passes-accepted (rampsOnce new) _ (ramps′ .0) refl)) in
     let counted = accepted-passes _ _ eighth in
     record {
-      old-numbers = olds;
       new-numbers = news;
-      old-length = both .0;
       new-length = both .1;
       new-cells = cells-fit new (both .1);
       state-fits-it = state-fits old state (both-accepted (tableNumbers old) (stateInRange old state ∷ []) olds (accepted-passes _ _ numbers .1));
       old-fits = table-fits old olds;
-      new-fits = table-fits new news;
       counts = len;
       sums = eqb-true (firstPiece pieces (cells old)) (cells new) (counted .0 0 (omega arith));
       each = λ i h. cell-cut old pieces new i (accepted-passes _ _ (counted .1) .0 i h);

@@ -14,14 +14,14 @@ use Rattle.whole.specs.Sums.{sum}
 use Rattle.whole.specs.Search.{pick}
 use Rattle.whole.proofs.Search.{Passes}
 use Rattle.whole.proofs.Sums.{sum-of-equal-terms}
-use Rattle.corridor.specs.declared.Answer.the-variants.{Accepted}
-use Rattle.corridor.specs.Layout.{cells, rowAt, stateLength, entryQueue, countAt, queueAt}
+use Rattle.refusals.specs.declared.Answer.the-variants.{Accepted}
+use Rattle.layout.specs.Layout.{cells, rowAt, stateLength, entryQueue, countAt, queueAt}
 use Rattle.corridor.specs.Vehicles.{vehicles, atOnRamp, atOffRamp, present, rampsTo, ramps}
-use Rattle.corridor.specs.Checks.{answer}
+use Rattle.refusals.specs.Checks.{answer}
 use Rattle.corridor.specs.Acceptance.{withRamp, queueLimit, tableNumbers, stateInRange, stateNumbers}
-use Rattle.corridor.proofs.Answers.{both-accepted, passes-accepted}
+use Rattle.refusals.proofs.Answers.{both-accepted, passes-accepted}
 use Rattle.corridor.proofs.Ranges.{both-hold}
-use Rattle.corridor.proofs.States.{laid-length, laid-entry, laid-count, laid-queue}
+use Rattle.layout.proofs.States.{laid-length, laid-entry, laid-count, laid-queue}
 use Rattle.recut.specs.declared.Piece.{Piece}
 use Rattle.recut.specs.Pieces.{pieceCount, firstPiece, jamBefore, pieceAt}
 use Rattle.recut.specs.Recut.{newCount, newQueue, newState}

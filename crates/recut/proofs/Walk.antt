@@ -10,7 +10,7 @@ use native.Mathlib.Decide.{decLt}
 use borrow.Author.Tests.{lt-ltb, le-ltb}
 use Rattle.whole.specs.Sums.{sum}
 use Rattle.whole.proofs.Sums.{sum-grows}
-use Rattle.corridor.specs.Layout.{rowAt}
+use Rattle.layout.specs.Layout.{rowAt}
 use Rattle.recut.specs.declared.Piece.{Piece}
 use Rattle.recut.specs.Pieces.{pieceCount, firstPiece, jamBefore, nextPiece, pieceAt}
 

@@ -6,8 +6,8 @@ use lib.Dec.{eqb, ltb}
 use lib.ListN.{getD}
 use Rattle.whole.specs.Sums.{sum}
 use Rattle.whole.specs.Search.{pick, every}
-use Rattle.corridor.specs.declared.Row.{Row}
-use Rattle.corridor.specs.Layout.{rowAt}
+use Rattle.layout.specs.declared.Row.{Row}
+use Rattle.layout.specs.Layout.{rowAt}
 use Rattle.recut.specs.declared.Piece.{Piece}
 
 -- one piece count for each old cell

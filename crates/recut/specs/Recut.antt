@@ -8,12 +8,12 @@ use lib.ListN.{length}
 use Rattle.whole.specs.Lists.{build}
 use Rattle.whole.specs.Sums.{sum, atPosition}
 use Rattle.whole.specs.Search.{pick}
-use Rattle.corridor.specs.declared.Answer.{Answer}
-use Rattle.corridor.specs.declared.Answer.the-variants.{Accepted}
-use Rattle.corridor.specs.declared.Refusal.the-variants.{Pieces}
-use Rattle.corridor.specs.Layout.{cells, rowAt, stateLength, entryQueue, countAt, queueAt}
-use Rattle.corridor.specs.Checks.{Check, answer, whenAccepted}
-use Rattle.corridor.specs.Acceptance.{tableLengthFits, lengths, bothTables, stateInRange, bothTablesChecks, stateAloneChecks}
+use Rattle.refusals.specs.declared.Answer.{Answer}
+use Rattle.refusals.specs.declared.Answer.the-variants.{Accepted}
+use Rattle.refusals.specs.declared.Refusal.the-variants.{Pieces}
+use Rattle.layout.specs.Layout.{cells, rowAt, stateLength, entryQueue, countAt, queueAt}
+use Rattle.refusals.specs.Checks.{Check, answer, whenAccepted, lengths}
+use Rattle.corridor.specs.Acceptance.{tableLengthFits, bothTables, stateInRange, bothTablesChecks, stateAloneChecks}
 use Rattle.recut.specs.Pieces.{pieceCount, cellIsCut, pieceAt}
 
 -- the vehicles of a piece: n·C/J − n·C'/J, each rounded down, with C' the sum of J before it and C the sum with it

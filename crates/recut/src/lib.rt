@@ -4,16 +4,16 @@ ghost use Prim.Native.Nat.{_+_, _*_, _/_, _≤_, _<_};
 ghost use lib.ListN.{length};
 ghost use lib.Dec.{eqb};
 ghost use Rattle.whole.specs.Search.{pick};
-ghost use Rattle.corridor.specs.Layout.{cells, stateLength};
-ghost use Rattle.corridor.specs.Checks.{answer};
+ghost use Rattle.layout.specs.Layout.{cells, stateLength};
+ghost use Rattle.refusals.specs.Checks.{answer};
 ghost use Rattle.recut.specs.Recut.{pieceVehicles, newState, recutListsFit, piecesNumbers, Cut, RecutDone};
 
 mod pieces;
 
-use corridor::Answer;
-use corridor::Refusal;
-use corridor::layout::*;
+use layout::*;
 use pieces::*;
+use refusals::Answer;
+use refusals::Refusal;
 
 // A piece of an old cell: its cell, its number there, and the sum of J before it.
 pub struct Piece {

@@ -4,13 +4,12 @@ ghost use Prim.Native.Nat.{_+_, _≤_, _<_};
 ghost use lib.ListN.{length};
 ghost use Rattle.whole.specs.Sums.{sum};
 ghost use Rattle.whole.specs.Search.{every};
-ghost use Rattle.corridor.specs.Layout.{cells, rowAt};
-ghost use Rattle.corridor.specs.Checks.{least};
+ghost use Rattle.layout.specs.Layout.{cells, rowAt};
+ghost use Rattle.refusals.specs.Checks.{least};
 ghost use Rattle.recut.specs.Pieces.{pieceCount, firstPiece, jamBefore, keepsOnRamp, keepsOffRamp, noOtherRamp, piecesFit, cellIsCut, nextPiece};
 ghost use Rattle.recut.specs.Recut.{cellsAreCut};
 use crate::Piece;
-use corridor::Row;
-use corridor::layout::*;
+use layout::*;
 
 // The sum of the counts: at most 512 of them, so that it fits.
 pub(crate) fn total(pieces: &[u32]) -> usize

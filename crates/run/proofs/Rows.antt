@@ -10,17 +10,18 @@ use borrow.Author.Tests.{lt-ltb, le-ltb, leb-true, eqb-true}
 use lib.Dec.{leb, eqb}
 use lib.ListN.{length, take, drop, length-take, length-drop}
 use Rattle.whole.proofs.Search.{Searching, found, not-found}
-use Rattle.corridor.specs.declared.Refusal.{Refusal}
-use Rattle.corridor.specs.declared.Refusal.the-variants.{Length}
-use Rattle.corridor.specs.declared.Answer.{Answer}
-use Rattle.corridor.specs.declared.Answer.the-variants.{Accepted, Refused}
-use Rattle.corridor.specs.Layout.{cells, stateLength, demandLength}
-use Rattle.corridor.specs.Checks.{answer}
+use Rattle.refusals.specs.declared.Refusal.{Refusal}
+use Rattle.refusals.specs.declared.Refusal.the-variants.{Length}
+use Rattle.refusals.specs.declared.Answer.{Answer}
+use Rattle.refusals.specs.declared.Answer.the-variants.{Accepted, Refused}
+use Rattle.layout.specs.Layout.{cells, stateLength, demandLength}
+use Rattle.refusals.specs.Checks.{answer}
 use Rattle.corridor.specs.Acceptance.{stateLengthsFit, stateNumbers, stateChecks}
-use Rattle.corridor.proofs.Answers.{length-fits-too, length-fails}
+use Rattle.refusals.proofs.Answers.{length-fits-too, length-fails}
 use Rattle.corridor.proofs.Ranges.{both-hold}
 use Rattle.period.specs.Sharing.{asymmetric}
-use Rattle.period.specs.Period.{sheetLength, sheetOf, stateAfter, RowDone}
+use Rattle.period.specs.Period.{sheetOf, stateAfter, RowDone}
+use Rattle.layout.specs.Sheet.{sheetLength}
 use Rattle.period.proofs.Fair.{asymmetric-is-fair}
 use Rattle.period.proofs.Reading.{after-length, sheet-length}
 use Rattle.period.proofs.Again.{state-stays-accepted}

@@ -6,13 +6,14 @@ use mathlib.Core.List.{List, _∷_}
 use lib.Dec.{leb, ltb, eqb}
 use lib.ListN.{length, take, drop}
 use Rattle.whole.specs.Search.{pick, firstFailing}
-use Rattle.corridor.specs.declared.Answer.{Answer}
-use Rattle.corridor.specs.declared.Answer.the-variants.{Accepted, Refused}
-use Rattle.corridor.specs.Layout.{cells, demandLength}
-use Rattle.corridor.specs.Checks.{Check, answer, whenAccepted}
-use Rattle.corridor.specs.Acceptance.{stateLengthsFit, lengths, stateNumbers, demandNumbers}
+use Rattle.refusals.specs.declared.Answer.{Answer}
+use Rattle.refusals.specs.declared.Answer.the-variants.{Accepted, Refused}
+use Rattle.layout.specs.Layout.{cells, demandLength}
+use Rattle.refusals.specs.Checks.{Check, answer, whenAccepted, lengths}
+use Rattle.corridor.specs.Acceptance.{stateLengthsFit, stateNumbers, demandNumbers}
 use Rattle.period.specs.Sharing.{asymmetric}
-use Rattle.period.specs.Period.{sheetLength, sheetOf, stateAfter}
+use Rattle.period.specs.Period.{sheetOf, stateAfter}
+use Rattle.layout.specs.Sheet.{sheetLength}
 use Rattle.run.specs.declared.Ran.{Ran}
 
 -- K, and the demand row of index k

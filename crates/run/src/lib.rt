@@ -1,12 +1,12 @@
 // A run of periods, one for each demand row: the table and the state are checked once, before the first row.
 ghost use mathlib.Core.Path.{_≡_};
 ghost use mathlib.Core.Bool.{true};
-ghost use Rattle.corridor.specs.Checks.{answer};
+ghost use Rattle.refusals.specs.Checks.{answer};
 ghost use Rattle.corridor.specs.Acceptance.{stateLengthsFit, stateNumbers};
 ghost use Rattle.run.specs.Run.{runListsFit, RowsDone, RunDone};
-use corridor::Answer;
-use corridor::Refusal;
-use corridor::layout::cells;
+use layout::cells;
+use refusals::Answer;
+use refusals::Refusal;
 
 // The periods that a run completed, and its answer.
 pub struct Ran {

@@ -1,5 +1,5 @@
 // What the programs print: answers and lists of numbers.
-use corridor::Answer;
+use refusals::Answer;
 
 // Prints an answer and ends the line: accepted, or the refusal's number and place.
 pub fn answer(answer: Answer) {
@@ -9,9 +9,9 @@ pub fn answer(answer: Answer) {
         }
         Answer::Refused(refusal) => {
             io::write_all(1, b"refused ");
-            io::print_decimal(1, corridor::number(refusal) as u64);
+            io::print_decimal(1, refusals::number(refusal) as u64);
             io::write_all(1, b" at ");
-            io::print_decimal(1, corridor::place(refusal) as u64);
+            io::print_decimal(1, refusals::place(refusal) as u64);
             io::write_all(1, b"\n");
         }
     }

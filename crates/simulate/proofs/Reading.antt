@@ -1,19 +1,47 @@
--- What one read of the demand leaves, by how its chunk was followed or how it ended. Assumes nothing.
+-- A file of records, from one read to the next. Assumes nothing.
 use Prim.Native.Nat.{ℕ}
-use mathlib.Core.List.{List}
-use Rattle.text.specs.declared.Scan.{Scan}
-use Rattle.steps.proofs.Leading.{next-chunk-leads}
-use Rattle.simulate.specs.Loops.{ChunkFollowed, ReadFollowed, Ended}
-use Rattle.simulate.specs.declared.Next.{Next}
-use Rattle.simulate.specs.declared.Next.the-variants.{On, Over, Lost}
+use mathlib.Core.Path.{_≡_, refl, sym}
+use mathlib.Core.List.{List, [], _∷_, _++_}
+use Rattle.scans.specs.Scans.{begin}
+use Rattle.files.specs.Files.{fileOn, fileEnd}
+use Rattle.steps.specs.Steps.{piecesOn, readFile}
+use Rattle.files.specs.declared.Reading.{Reading}
+use Rattle.files.specs.declared.Reading.the-variants.{On}
+use Rattle.files.specs.declared.File.{File}
+use Rattle.files.specs.declared.File.the-variants.{Holds, BrokenAt, Lost}
+use Rattle.simulate.specs.Loops.{ChunkRead, ChunksRead, FileRead}
 
-module _ (table : List ℕ) (k : ℕ) (scan : Scan) (row state sheet row′ state′ sheet′ : List ℕ) where
-  pub chunk-read : (next : Next) (chunk : List ℕ) → ChunkFollowed next table k scan row state sheet chunk row′ state′ sheet′ → ReadFollowed next table k scan row state sheet row′ state′ sheet′
-  chunk-read (On k′ scan′) chunk followed = record { chunk = chunk; leads = next-chunk-leads table k scan row state sheet chunk followed }
-  chunk-read Over chunk followed = tt
-  chunk-read Lost chunk followed = tt
+module _ (fields : ℕ) where
+  piece-after : (so : Reading) (list : List ℕ) (pieces : List (List ℕ)) (chunk : List ℕ)
+      → piecesOn fields so list (pieces ++ (chunk ∷ [])) ≡ fileOn fields (piecesOn fields so list pieces .0) (piecesOn fields so list pieces .1) chunk
+  unfolding piecesOn
+  piece-after so list [] chunk = refl
+  piece-after so list (piece ∷ rest) chunk = piece-after (fileOn fields so list piece .0) (fileOn fields so list piece .1) rest chunk
 
-  pub end-read : (next : Next) → Ended next → ReadFollowed next table k scan row state sheet row′ state′ sheet′
-  end-read (On k′ scan′) ended = absurd ended
-  end-read Over ended = tt
-  end-read Lost ended = tt
+  -- where the reads have led
+  pub record Stands (list₀ : List ℕ) (so : Reading) (list : List ℕ) : Type 0 where
+    pub pieces : List (List ℕ)
+    pub stands : so ≡ piecesOn fields (On 0 0 begin) list₀ pieces .0
+    pub holds : list ≡ piecesOn fields (On 0 0 begin) list₀ pieces .1
+
+  pub stands-first : (list₀ : List ℕ) → Stands list₀ (On 0 0 begin) list₀
+  unfolding piecesOn
+  stands-first list₀ = record { pieces = []; stands = refl; holds = refl }
+
+  module _ {list₀ list : List ℕ} {so : Reading} (at : Stands list₀ so list) where
+    pub read-then : {so′ : Reading} {list′ : List ℕ} → ChunkRead fields so list so′ list′ → Stands list₀ so′ list′
+    read-then more =
+        record {
+          pieces = at .pieces ++ (more .chunk ∷ []);
+          stands = rw (piece-after (On 0 0 begin) list₀ (at .pieces) (more .chunk), sym (at .stands), sym (at .holds)) (more .stands);
+          holds = rw (piece-after (On 0 0 begin) list₀ (at .pieces) (more .chunk), sym (at .stands), sym (at .holds)) (more .holds);
+        }
+
+    pub read-to-its-end : (file : File) {list′ : List ℕ} → file ≡ fileEnd fields so list .0 → list′ ≡ fileEnd fields so list .1 → FileRead file fields list₀ list′
+    unfolding readFile
+    read-to-its-end file {list′} found stored = by file (record { pieces = at .pieces; found = rw (at .stands, at .holds) at found; holds = rw (at .stands, at .holds) at stored })
+      where
+        by : (file : File) → ChunksRead fields list₀ file list′ → FileRead file fields list₀ list′
+        by (Holds n) read = read
+        by (BrokenAt place) read = read
+        by Lost read = tt

@@ -1,29 +1,74 @@
--- What the loops of system calls keep: the demand stands where the calls of `follow`, one taking what the last one left, have led.
+-- What the loops of system calls keep. No contract says which bytes a read brings; these say that the steps take them one after the other, each
+-- from what the last one left.
 use Prim.Native.Nat.{ℕ}
-use mathlib.Core.List.{List, [], _∷_}
-use Rattle.text.specs.declared.Scan.{Scan}
-use Rattle.steps.specs.Steps.{Leads}
+use mathlib.Core.Path.{_≡_}
+use mathlib.Core.List.{List, []}
+use lib.Seq.{sets}
+use Rattle.scans.specs.declared.Scan.{Scan}
+use Rattle.files.specs.Files.{fileOn}
+use Rattle.steps.specs.Demand.{over, Followed, follow, followEnd}
+use Rattle.steps.specs.Steps.{chunks, readFile, Leads}
+use Rattle.files.specs.declared.Reading.{Reading}
+use Rattle.files.specs.declared.File.{File}
+use Rattle.files.specs.declared.File.the-variants as File
+use Rattle.simulate.specs.declared.Got.{Got}
+use Rattle.simulate.specs.declared.Got.the-variants as Got
 use Rattle.simulate.specs.declared.Next.{Next}
-use Rattle.simulate.specs.declared.Next.the-variants.{On, Over, Lost}
+use Rattle.simulate.specs.declared.Next.the-variants.{On, Over, Lost, Shut, Unfit}
 
--- a chunk is followed to its end
-abbrev pub ChunkFollowed : Next → List ℕ → ℕ → Scan → List ℕ → List ℕ → List ℕ → List ℕ → List ℕ → List ℕ → List ℕ → Type 0
-ChunkFollowed (On k′ scan′) table k scan row state sheet chunk row′ state′ sheet′ = Leads table k scan row state sheet chunk [] k′ scan′ row′ state′ sheet′ []
-ChunkFollowed Over table k scan row state sheet chunk row′ state′ sheet′ = Unit {0}
-ChunkFollowed Lost table k scan row state sheet chunk row′ state′ sheet′ = Unit {0}
-
--- the chunk that a read brings
-pub record LeadsByAChunk (table : List ℕ) (k : ℕ) (scan : Scan) (row state sheet : List ℕ) (k′ : ℕ) (scan′ : Scan) (row′ state′ sheet′ : List ℕ) : Type 0 where
+-- one read of a file of records: a chunk more, or nothing
+pub record ChunkRead (fields : ℕ) (so : Reading) (list : List ℕ) (so′ : Reading) (list′ : List ℕ) : Type 0 where
   pub chunk : List ℕ
-  pub leads : Leads table k scan row state sheet [] (chunk ∷ []) k′ scan′ row′ state′ sheet′ []
+  pub stands : so′ ≡ fileOn fields so list chunk .0
+  pub holds : list′ ≡ fileOn fields so list chunk .1
 
-abbrev pub ReadFollowed : Next → List ℕ → ℕ → Scan → List ℕ → List ℕ → List ℕ → List ℕ → List ℕ → List ℕ → Type 0
-ReadFollowed (On k′ scan′) table k scan row state sheet row′ state′ sheet′ = LeadsByAChunk table k scan row state sheet k′ scan′ row′ state′ sheet′
-ReadFollowed Over table k scan row state sheet row′ state′ sheet′ = Unit {0}
-ReadFollowed Lost table k scan row state sheet row′ state′ sheet′ = Unit {0}
+abbrev pub SomeRead : Got → ℕ → Reading → List ℕ → List ℕ → Type 0
+SomeRead (Got.More so′) fields so list list′ = ChunkRead fields so list so′ list′
+SomeRead Got.End fields so list list′ = list′ ≡ list
+SomeRead Got.Lost fields so list list′ = list′ ≡ list
 
--- the demand has ended: it does not go on
-abbrev pub Ended : Next → Type 0
-Ended (On k scan) = ⊥
-Ended Over = Unit {0}
-Ended Lost = Unit {0}
+-- a file of records, read to its end in chunks
+pub record ChunksRead (fields : ℕ) (list : List ℕ) (file : File) (list′ : List ℕ) : Type 0 where
+  pub pieces : List (List ℕ)
+  pub found : file ≡ readFile fields list (chunks pieces) .0
+  pub holds : list′ ≡ readFile fields list (chunks pieces) .1
+
+abbrev pub FileRead : File → ℕ → List ℕ → List ℕ → Type 0
+FileRead (File.Holds n) fields list list′ = ChunksRead fields list (File.Holds n) list′
+FileRead (File.BrokenAt place) fields list list′ = ChunksRead fields list (File.BrokenAt place) list′
+FileRead File.Lost fields list list′ = Unit {0}
+
+-- the last call for the demand: a record is refused, or the demand has ended
+pub data LastCall (table : List ℕ) (k : ℕ) (scan : Scan) (row state sheet left : List ℕ) (f : Followed) : Type 0 where
+  refuses : (room : ℕ) → f ≡ follow table room k scan row state sheet left → f .how ≡ over → LastCall table k scan row state sheet left f
+  ends : left ≡ [] → f ≡ followEnd table k scan row state sheet → LastCall table k scan row state sheet left f
+
+-- the calls lead to the last one; its lines stand at the start of the output
+pub record Closes (table : List ℕ) (k : ℕ) (scan : Scan) (row state sheet left : List ℕ) (pieces : List (List ℕ)) (row′ state′ sheet′ out′ : List ℕ) : Type 0 where
+  pub k₁ : ℕ
+  pub scan₁ : Scan
+  pub row₁ : List ℕ
+  pub state₁ : List ℕ
+  pub sheet₁ : List ℕ
+  pub left₁ : List ℕ
+  pub out₁ : List ℕ
+  pub leads : Leads table k scan row state sheet left pieces k₁ scan₁ row₁ state₁ sheet₁ left₁
+  pub f : Followed
+  pub last : LastCall table k₁ scan₁ row₁ state₁ sheet₁ left₁ f
+  pub leavesRow : row′ ≡ f .row
+  pub leavesState : state′ ≡ f .state
+  pub leavesSheet : sheet′ ≡ f .sheet
+  pub writes : out′ ≡ sets out₁ 0 (f .text)
+
+-- how the demand goes on over these chunks
+abbrev pub Goes : Next → List ℕ → ℕ → Scan → List ℕ → List ℕ → List ℕ → List ℕ → List (List ℕ) → List ℕ → List ℕ → List ℕ → List ℕ → Type 0
+Goes (On k′ scan′) table k scan row state sheet left pieces row′ state′ sheet′ out′ = Leads table k scan row state sheet left pieces k′ scan′ row′ state′ sheet′ []
+Goes Over table k scan row state sheet left pieces row′ state′ sheet′ out′ = Closes table k scan row state sheet left pieces row′ state′ sheet′ out′
+Goes Lost table k scan row state sheet left pieces row′ state′ sheet′ out′ = (row′ ≡ row) × (state′ ≡ state) × (sheet′ ≡ sheet)
+Goes Shut table k scan row state sheet left pieces row′ state′ sheet′ out′ = Unit {0}
+Goes Unfit table k scan row state sheet left pieces row′ state′ sheet′ out′ = Unit {0}
+
+-- and over the chunks that reads bring
+pub record GoesOn (next : Next) (table : List ℕ) (k : ℕ) (scan : Scan) (row state sheet row′ state′ sheet′ out′ : List ℕ) : Type 0 where
+  pub pieces : List (List ℕ)
+  pub goes : Goes next table k scan row state sheet [] pieces row′ state′ sheet′ out′

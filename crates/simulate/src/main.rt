@@ -1,36 +1,41 @@
 // The run program: `cells.csv`, `state.csv` and `demand.csv` of the folder it is run in become the flow sheet on standard
 // output. This file opens files and moves bytes: what is read, what is refused, in which order, and every byte that is
-// written is decided by the functions of `steps`, and what one call answers is handed to the next.
+// written is decided by the functions of `files` and `steps`, and what one call answers is handed to the next.
 ghost use mathlib.Core.Path.{_≡_};
 ghost use Prim.Native.Nat.{_≤_};
 ghost use lib.ListN.{length};
-ghost use Rattle.simulate.specs.Loops.{ChunkFollowed, ReadFollowed, Ended};
+ghost use mathlib.Core.List.{[]};
+ghost use Rattle.scans.specs.Scans.{begin};
+ghost use Rattle.simulate.specs.Loops.{SomeRead, FileRead, Goes, GoesOn};
 use digits::Written;
-use steps::File;
-use steps::Found;
-use steps::Reading;
+use files::File;
+use files::Found;
+use files::Reading;
+use files::Stop;
+use scans::Scan;
 use steps::Run;
-use steps::Stop;
 use steps::demand;
-use steps::files;
 use steps::lines;
-use text::Scan;
 
 // What one read of a file came to.
-enum Got {
+pub enum Got {
     More(Reading),
     End,
     Lost,
 }
 
-// Where the demand stands after one read of it.
+// How the demand goes on.
 pub enum Next {
     // Period k is being tried, and the reading stands here.
     On { k: usize, scan: Scan },
-    // The last line is passed on, or the output is lost.
+    // The last line is written.
     Over,
     // It can't be read on.
     Lost,
+    // The output can't be written on.
+    Shut,
+    // The lists are not those of a run, which never comes to be.
+    Unfit,
 }
 
 // A table of 512 cells.
@@ -88,7 +93,9 @@ fn halt(stop: Stop, out: &mut [u8]) {
 }
 
 // One read of a file of records into a list.
-fn read_some(fd: i32, name: &[u8], fields: usize, reading: Reading, list: &mut [u32]) -> Got {
+fn read_some(fd: i32, name: &[u8], fields: usize, reading: Reading, list: &mut [u32]) -> Got
+    ensures { λ r. ⌜ SomeRead r fields reading (now (list .entry)) (now (list .exit)) ⌝ }
+{
     let mut buffer = io::large_buffer();
     let got = libc::read(fd, &mut buffer);
     if got < 0 {
@@ -103,7 +110,9 @@ fn read_some(fd: i32, name: &[u8], fields: usize, reading: Reading, list: &mut [
 }
 
 // Reads an open file of records to its end. A loop must end, so it counts its reads down from a number that no file uses up.
-fn read_all(fd: i32, name: &[u8], fields: usize, list: &mut [u32]) -> File {
+fn read_all(fd: i32, name: &[u8], fields: usize, list: &mut [u32]) -> File
+    ensures { λ r. ⌜ FileRead r fields (now (list .entry)) (now (list .exit)) ⌝ }
+{
     let mut reading = files::start();
     let mut reads = u64::MAX;
     while 0 < reads {
@@ -125,7 +134,9 @@ fn read_all(fd: i32, name: &[u8], fields: usize, list: &mut [u32]) -> File {
 }
 
 // Reads a file of records of so many fields each into a list.
-fn read_file(name: &[u8], fields: usize, list: &mut [u32]) -> File {
+fn read_file(name: &[u8], fields: usize, list: &mut [u32]) -> File
+    ensures { λ r. ⌜ FileRead r fields (now (list .entry)) (now (list .exit)) ⌝ }
+{
     let fd = os::open_read(name);
     if fd < 0 {
         os::fail(name);
@@ -147,7 +158,7 @@ fn follow_chunk(
     sheet: &mut [u32],
     out: &mut [u8],
 ) -> Next
-    ensures { λ r. ⌜ ChunkFollowed r (now (table .entry)) k scan (now (row .entry)) (now (state .entry)) (now (sheet .entry)) (now (chunk .entry)) (now (row .exit)) (now (state .exit)) (now (sheet .exit)) ⌝ }
+    ensures { λ r. ⌜ Goes r (now (table .entry)) k scan (now (row .entry)) (now (state .entry)) (now (sheet .entry)) (now (chunk .entry)) [] (now (row .exit)) (now (state .exit)) (now (sheet .exit)) (now (out .exit)) ⌝ }
 {
     let mut k = k;
     let mut scan = scan;
@@ -162,7 +173,7 @@ fn follow_chunk(
                 at,
             } => {
                 if !pass_on(out, at) {
-                    return Next::Over;
+                    return Next::Shut;
                 }
                 from += read;
                 k = period;
@@ -173,7 +184,7 @@ fn follow_chunk(
                 return Next::Over;
             }
             Run::Unfit => {
-                return Next::Lost;
+                return Next::Unfit;
             }
         }
     }
@@ -190,7 +201,7 @@ fn end_demand(
     sheet: &mut [u32],
     out: &mut [u8],
 ) -> Next
-    ensures { λ r. ⌜ Ended r ⌝ }
+    ensures { λ r. ⌜ Goes r (now (table .entry)) k scan (now (row .entry)) (now (state .entry)) (now (sheet .entry)) [] [] (now (row .exit)) (now (state .exit)) (now (sheet .exit)) (now (out .exit)) ⌝ }
 {
     let run = demand::end(k, scan, table, state, row, sheet, out);
     match run {
@@ -203,8 +214,8 @@ fn end_demand(
             k: _,
             scan: _,
             at: _,
-        } => Next::Lost,
-        Run::Unfit => Next::Lost,
+        } => Next::Unfit,
+        Run::Unfit => Next::Unfit,
     }
 }
 
@@ -219,7 +230,7 @@ fn follow_some(
     sheet: &mut [u32],
     out: &mut [u8],
 ) -> Next
-    ensures { λ r. ⌜ ReadFollowed r (now (table .entry)) k scan (now (row .entry)) (now (state .entry)) (now (sheet .entry)) (now (row .exit)) (now (state .exit)) (now (sheet .exit)) ⌝ }
+    ensures { λ r. ⌜ GoesOn r (now (table .entry)) k scan (now (row .entry)) (now (state .entry)) (now (sheet .entry)) (now (row .exit)) (now (state .exit)) (now (sheet .exit)) (now (out .exit)) ⌝ }
 {
     let mut buffer = io::large_buffer();
     let got = libc::read(fd, &mut buffer);
@@ -234,7 +245,7 @@ fn follow_some(
     follow_chunk(&buffer[..n], k, scan, table, state, row, sheet, out)
 }
 
-// Reads the open demand to its end, a period for each record.
+// Reads the open demand, a period for each record, until it has ended or can't be read on.
 fn run_demand(
     fd: i32,
     table: &[u32],
@@ -242,30 +253,46 @@ fn run_demand(
     row: &mut [u32],
     sheet: &mut [u32],
     out: &mut [u8],
-) {
+) -> Next
+    ensures { λ r. ⌜ GoesOn r (now (table .entry)) 1 begin (now (row .entry)) (now (state .entry)) (now (sheet .entry)) (now (row .exit)) (now (state .exit)) (now (sheet .exit)) (now (out .exit)) ⌝ }
+{
     let mut k = 1;
-    let mut scan = text::begin();
+    let mut scan = scans::begin();
     let mut reads = u64::MAX;
     while 0 < reads {
         reads -= 1;
         let next = follow_some(fd, k, scan, table, state, row, sheet, out);
         match next {
-            Next::On {
-                k: period,
-                scan: so,
-            } => {
-                k = period;
+            Next::On { k: tried, scan: so } => {
+                k = tried;
                 scan = so;
             }
-            Next::Over => {
-                return;
-            }
             Next::Lost => {
-                reads = 0;
+                return Next::On { k, scan };
+            }
+            Next::Over => {
+                return Next::Over;
+            }
+            Next::Shut => {
+                return Next::Shut;
+            }
+            Next::Unfit => {
+                return Next::Unfit;
             }
         }
     }
-    halt(files::demand_lost(k), out);
+    Next::On { k, scan }
+}
+
+// The demand is over, or it could not be read on while a period was tried.
+fn end_run(next: Next, out: &mut [u8]) {
+    match next {
+        Next::On { k, scan: _ } => halt(files::demand_lost(k), out),
+        Next::Lost => halt(files::demand_lost(0), out),
+        Next::Unfit => halt(files::demand_lost(0), out),
+        Next::Over => {}
+        Next::Shut => {}
+    }
 }
 
 // The demand, under an accepted table of n cells and an accepted state.
@@ -280,7 +307,7 @@ fn with_state(n: usize, table: &[u32], state: &mut [u32], out: &mut [u8])
     }
     let mut row = row_space();
     let mut sheet = sheet_space();
-    run_demand(
+    let next = run_demand(
         fd,
         table,
         state,
@@ -289,6 +316,7 @@ fn with_state(n: usize, table: &[u32], state: &mut [u32], out: &mut [u8])
         out,
     );
     libc::close(fd);
+    end_run(next, out);
 }
 
 // The state, under a table of n cells.

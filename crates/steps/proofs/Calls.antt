@@ -9,17 +9,17 @@ use lib.Dec.{leb, eqb}
 use lib.ListN.{length}
 use lib.Seq.{sets}
 use Rattle.digits.specs.declared.Written.the-variants.{To, NoRoom}
-use Rattle.text.specs.Scans.{ended}
+use Rattle.scans.specs.Scans.{ended}
 use Rattle.text.specs.Reads.{rowAtEnd}
-use Rattle.text.specs.declared.Scan.{Scan}
-use Rattle.corridor.specs.declared.Answer.{Answer}
-use Rattle.corridor.specs.declared.Answer.the-variants.{Accepted, Refused}
-use Rattle.corridor.specs.declared.Refusal.{Refusal}
-use Rattle.corridor.specs.Layout.{cells, demandLength}
-use Rattle.corridor.specs.Checks.{answer}
+use Rattle.scans.specs.declared.Scan.{Scan}
+use Rattle.refusals.specs.declared.Answer.{Answer}
+use Rattle.refusals.specs.declared.Answer.the-variants.{Accepted, Refused}
+use Rattle.refusals.specs.declared.Refusal.{Refusal}
+use Rattle.layout.specs.Layout.{cells, demandLength}
+use Rattle.refusals.specs.Checks.{answer}
 use Rattle.corridor.specs.Acceptance.{stateChecks}
 use Rattle.corridor.proofs.Ranges.{both-hold}
-use Rattle.period.specs.Period.{sheetLength}
+use Rattle.layout.specs.Sheet.{sheetLength}
 use Rattle.steps.specs.Lines.{lineWritten, afterLine}
 use Rattle.steps.specs.Turns.{Did, reads, ends, breaks, refuses, passes, didEnd, didText, turnOf, rowAnswer, linesOf, Turned, Ready}
 use Rattle.steps.specs.Demand.{Followed, linesRoom, followEnd, andAccepted, runFits, ifFits, runOf, Leaves}

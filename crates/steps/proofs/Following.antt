@@ -10,21 +10,22 @@ use lib.ListN.{length, set, drop, length-append, length-drop, drop-of-length-le}
 use lib.Seq.{sets, drop-drop}
 use Rattle.whole.specs.Search.{pick}
 use Rattle.digits.proofs.Stores.{stores-after}
-use Rattle.text.specs.Scans.{begin, feed}
+use Rattle.scans.specs.Scans.{begin, feed}
 use Rattle.text.specs.Reads.{readOf, readOn, rowOf, rowOn}
-use Rattle.text.specs.declared.Scan.{Scan}
-use Rattle.text.specs.declared.Step.{Step}
-use Rattle.text.specs.declared.Step.the-variants.{More, Field, Complete, Breaks}
+use Rattle.scans.specs.declared.Scan.{Scan}
+use Rattle.scans.specs.declared.Step.{Step}
+use Rattle.scans.specs.declared.Step.the-variants.{More, Field, Complete, Breaks}
 use Rattle.text.specs.declared.Read.{Read}
 use Rattle.text.specs.declared.Read.the-variants as Read
 use Rattle.text.proofs.Pieces.{reaches-on}
-use Rattle.corridor.specs.declared.Answer.{Answer}
-use Rattle.corridor.specs.declared.Answer.the-variants.{Accepted, Refused}
-use Rattle.corridor.specs.Layout.{cells, demandLength}
+use Rattle.refusals.specs.declared.Answer.{Answer}
+use Rattle.refusals.specs.declared.Answer.the-variants.{Accepted, Refused}
+use Rattle.layout.specs.Layout.{cells, demandLength}
 use Rattle.period.specs.Sharing.{asymmetric}
 use Rattle.period.specs.Period.{sheetOf, stateAfter}
-use Rattle.steps.specs.Lines.{stopText, broken, refusedIn}
-use Rattle.steps.specs.Files.{counted}
+use Rattle.files.specs.Stops.{broken, refusedIn}
+use Rattle.files.specs.Files.{counted}
+use Rattle.steps.specs.Lines.{stopText}
 use Rattle.steps.specs.Turns.{Did, reads, ends, breaks, refuses, passes, didRow, did, didText, turnOf, whenPassed, rowAnswer, linesOf, Turned, Ready}
 use Rattle.steps.specs.Demand.{later, over, Followed, silent, stopped, after, tried, followOf, linesRoom, follow, runOf, Leaves}
 use Rattle.steps.specs.declared.Run.{Run}

@@ -6,7 +6,7 @@ use mathlib.Core.List.{List, [], _∷_, _++_, append-assoc}
 use native.Mathlib.Omega.{arith}
 use lib.ListN.{length, drop, drop-of-length-le}
 use lib.Seq.{drop-drop}
-use Rattle.text.specs.declared.Scan.{Scan}
+use Rattle.scans.specs.declared.Scan.{Scan}
 use Rattle.steps.specs.Demand.{How, later, over, unfit, Followed, follow, runFits, ifFits, followCall, runOf, Leaves}
 use Rattle.steps.specs.Steps.{next-chunk, call, Leads}
 use Rattle.steps.specs.declared.Run.the-variants.{On}
@@ -55,5 +55,5 @@ module _ (table : List ℕ) (k₀ : ℕ) (scan₀ : Scan) (row₀ state₀ sheet
   pub leads-to-its-end : {k : ℕ} {scan : Scan} {row state sheet : List ℕ} (from : ℕ) → LeadsTo k scan row state sheet (drop from chunk) → length chunk ≤ from → LeadsTo k scan row state sheet []
   leads-to-its-end from leads past = rw (drop-of-length-le chunk past) at leads
 
-  pub next-chunk-leads : {k : ℕ} {scan : Scan} {row state sheet : List ℕ} → LeadsTo k scan row state sheet [] → Leads table k₀ scan₀ row₀ state₀ sheet₀ [] (chunk ∷ []) k scan row state sheet []
+  pub next-chunk-leads : {k : ℕ} {scan : Scan} {row state sheet left : List ℕ} → LeadsTo k scan row state sheet left → Leads table k₀ scan₀ row₀ state₀ sheet₀ [] (chunk ∷ []) k scan row state sheet left
   next-chunk-leads leads = record { lines = leads .lines; on = λ more out follows. next-chunk (leads .on more out follows) }

@@ -1,7 +1,5 @@
-pub mod FilePieces
 pub mod Writing
 pub mod Turning
-pub mod Finding
 pub mod Texts
 pub mod Following
 pub mod Calls

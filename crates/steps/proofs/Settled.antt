@@ -3,19 +3,7 @@
 use Prim.Native.Nat.{ℕ}
 use mathlib.Core.List.{List}
 use denote.Ref.{now}
-use Rattle.whole.proofs.Settles.{Settles, SettlesLists, settled}
-use Rattle.steps.proofs.files.start.Kinds as start-kinds
-use Rattle.steps.proofs.files.start.Reads as start
-use Rattle.steps.proofs.files.read_on.Kinds as read-on-kinds
-use Rattle.steps.proofs.files.read_on.Reads as read-on
-use Rattle.steps.proofs.files.read_end.Kinds as read-end-kinds
-use Rattle.steps.proofs.files.read_end.Reads as read-end
-use Rattle.steps.proofs.files.cells_found.Kinds as cells-found-kinds
-use Rattle.steps.proofs.files.cells_found.Reads as cells-found
-use Rattle.steps.proofs.files.state_found.Kinds as state-found-kinds
-use Rattle.steps.proofs.files.state_found.Reads as state-found
-use Rattle.steps.proofs.files.demand_lost.Kinds as demand-lost-kinds
-use Rattle.steps.proofs.files.demand_lost.Reads as demand-lost
+use Rattle.whole.proofs.Settles.{SettlesLists, settled}
 use Rattle.steps.proofs.lines.header.Kinds as header-kinds
 use Rattle.steps.proofs.lines.header.Reads as header
 use Rattle.steps.proofs.lines.stop_line.Kinds as stop-line-kinds
@@ -24,24 +12,6 @@ use Rattle.steps.proofs.demand.follow.Kinds as follow-kinds
 use Rattle.steps.proofs.demand.follow.Reads as follow
 use Rattle.steps.proofs.demand.end.Kinds as end-kinds
 use Rattle.steps.proofs.demand.end.Reads as end
-
-pub start-settles : Settles _ start-kinds.ps start-kinds.r start.Learnt
-start-settles κs a y z e f = settled
-
-pub read-on-settles : SettlesLists _ read-on-kinds.ps read-on-kinds.r (List ℕ) (λ κs e. now (e .1 .1 .1 .0)) read-on.Learnt
-read-on-settles κs a y z e f p q = (settled (p .0) (q .0), settled (p .1) (q .1))
-
-pub read-end-settles : SettlesLists _ read-end-kinds.ps read-end-kinds.r (List ℕ) (λ κs e. now (e .1 .1 .0)) read-end.Learnt
-read-end-settles κs a y z e f p q = (settled (p .0) (q .0), settled (p .1) (q .1))
-
-pub cells-found-settles : Settles _ cells-found-kinds.ps cells-found-kinds.r cells-found.Learnt
-cells-found-settles κs a y z e f = settled
-
-pub state-found-settles : Settles _ state-found-kinds.ps state-found-kinds.r state-found.Learnt
-state-found-settles κs a y z e f = settled
-
-pub demand-lost-settles : Settles _ demand-lost-kinds.ps demand-lost-kinds.r demand-lost.Learnt
-demand-lost-settles κs a y z e f = settled
 
 pub header-settles : SettlesLists _ header-kinds.ps header-kinds.r (List ℕ) (λ κs e. now (e .0)) header.Learnt
 header-settles κs a y z e f p q = (settled (p .0) (q .0), settled (p .1) (q .1))

@@ -8,19 +8,19 @@ use lib.Dec.{leb}
 use lib.ListN.{length, set, drop, length-drop, length-append}
 use Rattle.whole.specs.Search.{pick}
 use Rattle.text.specs.Texts.{together}
-use Rattle.text.specs.Scans.{begin, feed, ended}
+use Rattle.scans.specs.Scans.{begin, feed, ended}
 use Rattle.text.specs.Reads.{rowAtEnd}
-use Rattle.text.specs.declared.Scan.{Scan}
-use Rattle.text.specs.declared.Step.{Step}
-use Rattle.text.specs.declared.Step.the-variants.{More, Field, Complete, Breaks}
-use Rattle.text.specs.declared.End.{End}
-use Rattle.text.specs.declared.End.the-variants.{Nothing, Last, Cut}
-use Rattle.corridor.specs.declared.Answer.{Answer}
-use Rattle.corridor.specs.declared.Answer.the-variants.{Accepted, Refused}
-use Rattle.corridor.specs.Layout.{cells, demandLength}
+use Rattle.scans.specs.declared.Scan.{Scan}
+use Rattle.scans.specs.declared.Step.{Step}
+use Rattle.scans.specs.declared.Step.the-variants.{More, Field, Complete, Breaks}
+use Rattle.scans.specs.declared.End.{End}
+use Rattle.scans.specs.declared.End.the-variants.{Nothing, Last, Cut}
+use Rattle.refusals.specs.declared.Answer.{Answer}
+use Rattle.refusals.specs.declared.Answer.the-variants.{Accepted, Refused}
+use Rattle.layout.specs.Layout.{cells, demandLength}
 use Rattle.period.specs.Sharing.{asymmetric}
 use Rattle.period.specs.Period.{sheetOf, stateAfter}
-use Rattle.steps.specs.Files.{counted}
+use Rattle.files.specs.Files.{counted}
 use Rattle.steps.specs.Turns.{didRow, didEnd, didText, rowAnswer, linesOf}
 use Rattle.steps.specs.Demand.{How, later, over, unfit, Followed, silent, after, tried, followOf, linesRoom, follow, followEnd, runFits, ifFits, followCall, runOf}
 use Rattle.steps.specs.Program.{lastRecord, recordsFrom, recordsOn, periodsFrom, sheetText}

@@ -11,25 +11,26 @@ use lib.Seq.{sets}
 use Rattle.whole.specs.Search.{pick}
 use Rattle.whole.proofs.Lists.{build-length}
 use Rattle.text.specs.Texts.{together}
-use Rattle.text.specs.Scans.{begin}
+use Rattle.scans.specs.Scans.{begin}
 use Rattle.text.specs.Reads.{held, numbers}
 use Rattle.text.specs.declared.Text.{Text}
 use Rattle.text.specs.declared.Text.the-variants as Text
 use Rattle.text.proofs.Accepted.{accepted-count}
-use Rattle.corridor.specs.Layout.{cells, stateLength, demandLength}
-use Rattle.steps.specs.Lines.{HEADER, broken}
-use Rattle.corridor.specs.Checks.{answer}
+use Rattle.layout.specs.Layout.{cells, stateLength, demandLength}
+use Rattle.files.specs.Stops.{broken}
+use Rattle.files.specs.Files.{cellsFound, stateFound, acceptedThen}
+use Rattle.files.specs.declared.File.{File}
+use Rattle.files.specs.declared.File.the-variants.{Holds, BrokenAt, Lost}
+use Rattle.files.specs.declared.Found.the-variants.{Go, Halt}
+use Rattle.files.specs.declared.Reading.the-variants.{On}
+use Rattle.files.proofs.Finding.{Cells, cells-told, state-told}
+use Rattle.steps.specs.Lines.{HEADER}
+use Rattle.refusals.specs.Checks.{answer}
 use Rattle.corridor.specs.Acceptance.{stateChecks}
-use Rattle.steps.specs.Files.{cellsFound, stateFound, acceptedThen}
 use Rattle.steps.specs.Program.{Given, missing, text, textFile, fileGiven, numbersGiven, zeros, recordsOn, sheetText, demandText, orHalt, simulated}
 use Rattle.steps.specs.Steps.{Read, absent, chunks, given, readFile, Writes, cells-stop, state-stop, demand-stop, runs}
-use Rattle.steps.specs.declared.File.{File}
-use Rattle.steps.specs.declared.File.the-variants.{Holds, BrokenAt, Lost}
-use Rattle.steps.specs.declared.Found.the-variants.{Go, Halt}
-use Rattle.steps.specs.declared.Reading.the-variants.{On}
 use Rattle.steps.proofs.Texts.{file-is-text, pieces-are-whole}
 use Rattle.steps.proofs.Sheets.{follows-writes}
-use Rattle.steps.proofs.Finding.{Cells, cells-told, state-told}
 
 -- a file has fewer than 2^64 − 2 bytes: then no count of records or periods comes to its limit
 abbrev pub Short : Read → Type 0

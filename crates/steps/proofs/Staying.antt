@@ -6,16 +6,16 @@ use mathlib.Core.List.{List, [], _∷_}
 use lib.Dec.{leb}
 use lib.ListN.{length, set, length-set}
 use Rattle.whole.specs.Search.{pick}
-use Rattle.text.specs.Scans.{begin, feed}
-use Rattle.text.specs.declared.Scan.{Scan}
-use Rattle.text.specs.declared.Step.{Step}
-use Rattle.text.specs.declared.Step.the-variants.{More, Field, Complete, Breaks}
-use Rattle.corridor.specs.declared.Answer.{Answer}
-use Rattle.corridor.specs.declared.Answer.the-variants.{Accepted, Refused}
-use Rattle.corridor.specs.Layout.{cells, demandLength}
+use Rattle.scans.specs.Scans.{begin, feed}
+use Rattle.scans.specs.declared.Scan.{Scan}
+use Rattle.scans.specs.declared.Step.{Step}
+use Rattle.scans.specs.declared.Step.the-variants.{More, Field, Complete, Breaks}
+use Rattle.refusals.specs.declared.Answer.{Answer}
+use Rattle.refusals.specs.declared.Answer.the-variants.{Accepted, Refused}
+use Rattle.layout.specs.Layout.{cells, demandLength}
 use Rattle.period.specs.Sharing.{asymmetric}
 use Rattle.period.specs.Period.{sheetOf, stateAfter}
-use Rattle.steps.specs.Files.{counted}
+use Rattle.files.specs.Files.{counted}
 use Rattle.steps.specs.Turns.{rowAnswer, linesOf, Ready}
 use Rattle.steps.specs.Demand.{later, Followed, silent, after, tried, followOf, linesRoom, follow}
 use Rattle.steps.proofs.Turning.{still, moved}

@@ -12,21 +12,21 @@ use lib.Seq.{sets, set-out}
 use Rattle.whole.specs.Search.{pick}
 use Rattle.digits.specs.Lines.{CR}
 use Rattle.text.specs.Texts.{together}
-use Rattle.text.specs.Scans.{begin, feed, untouched, lastField, ended}
+use Rattle.scans.specs.Scans.{begin, feed, untouched, lastField, ended}
 use Rattle.text.specs.Reads.{textFrom, textOn, numbersFrom, numbersOn, endOf}
-use Rattle.text.specs.declared.Scan.{Scan}
-use Rattle.text.specs.declared.Step.{Step}
-use Rattle.text.specs.declared.Step.the-variants.{More, Field, Complete, Breaks}
-use Rattle.text.specs.declared.End.the-variants.{Nothing, Cut}
+use Rattle.scans.specs.declared.Scan.{Scan}
+use Rattle.scans.specs.declared.Step.{Step}
+use Rattle.scans.specs.declared.Step.the-variants.{More, Field, Complete, Breaks}
+use Rattle.scans.specs.declared.End.the-variants.{Nothing, Cut}
 use Rattle.text.specs.declared.Text.{Text}
 use Rattle.text.specs.declared.Text.the-variants as Text
-use Rattle.steps.specs.Files as files
-use Rattle.steps.specs.Files.{counted, nextIndex, fileOf, fileOn, fileEnd}
+use Rattle.files.specs.Files as files
+use Rattle.files.specs.Files.{counted, nextIndex, fileOf, fileOn, fileEnd}
+use Rattle.files.specs.declared.Reading.{Reading}
+use Rattle.files.specs.declared.Reading.the-variants.{On}
+use Rattle.files.proofs.FilePieces.{stays-broken, file-in-pieces}
 use Rattle.steps.specs.Program.{textFile}
 use Rattle.steps.specs.Steps.{piecesOn}
-use Rattle.steps.specs.declared.Reading.{Reading}
-use Rattle.steps.specs.declared.Reading.the-variants.{On}
-use Rattle.steps.proofs.FilePieces.{stays-broken, file-in-pieces}
 
 -- within 64 bits a count goes on
 pub counted-on : (n : ℕ) → n < 18446744073709551615 → counted n ≡ n + 1

@@ -7,27 +7,29 @@ use native.Mathlib.Omega.{arith}
 use lib.ListN.{length}
 use lib.Seq.{sets}
 use Rattle.text.specs.Reads.{readOn}
-use Rattle.text.specs.declared.Scan.{Scan}
+use Rattle.scans.specs.declared.Scan.{Scan}
 use Rattle.text.specs.declared.Read.{Read}
 use Rattle.text.specs.declared.Read.the-variants.{Record, Part, Broken}
 use Rattle.text.proofs.Pieces.{reaches-on}
-use Rattle.corridor.specs.declared.Refusal.{Refusal}
-use Rattle.corridor.specs.declared.Answer.{Answer}
-use Rattle.corridor.specs.declared.Answer.the-variants.{Accepted, Refused}
-use Rattle.corridor.specs.Layout.{cells, demandLength}
-use Rattle.corridor.specs.Checks.{answer}
-use Rattle.corridor.specs.Acceptance.{tableLengthFits, stateLengthsFit, lengths, stateNumbers, stateChecks}
-use Rattle.corridor.proofs.Answers.{accepted-passes}
+use Rattle.refusals.specs.declared.Refusal.{Refusal}
+use Rattle.refusals.specs.declared.Answer.{Answer}
+use Rattle.refusals.specs.declared.Answer.the-variants.{Accepted, Refused}
+use Rattle.layout.specs.Layout.{cells, demandLength}
+use Rattle.refusals.specs.Checks.{answer, lengths}
+use Rattle.corridor.specs.Acceptance.{tableLengthFits, stateLengthsFit, stateNumbers, stateChecks}
+use Rattle.refusals.proofs.Answers.{accepted-passes}
 use Rattle.corridor.proofs.Ranges.{both-hold, cells-fit}
 use Rattle.period.specs.Sharing.{asymmetric}
-use Rattle.period.specs.Period.{sheetLength, sheetOf, stateAfter, RowDone}
+use Rattle.period.specs.Period.{sheetOf, stateAfter, RowDone}
+use Rattle.layout.specs.Sheet.{sheetLength}
 use Rattle.period.proofs.Fair.{asymmetric-is-fair}
 use Rattle.period.proofs.Reading.{after-length, sheet-length}
 use Rattle.period.proofs.Again.{state-stays-accepted}
 use Rattle.period.proofs.Rows.{same-length-fits}
-use Rattle.steps.specs.Lines.{periodText, stopText, broken, refusedIn}
+use Rattle.files.specs.Stops.{broken, refusedIn}
+use Rattle.files.specs.declared.Stop.{Stop}
+use Rattle.steps.specs.Lines.{periodText, stopText}
 use Rattle.steps.specs.Turns.{Did, breaks, didRow, did, didText, turnOf, whenPassed, rowAnswer, linesOf, Turned, Ready, Onward}
-use Rattle.steps.specs.declared.Stop.{Stop}
 use Rattle.steps.specs.declared.Turn.{Turn}
 use Rattle.steps.specs.declared.Turn.the-variants.{Period, Over}
 

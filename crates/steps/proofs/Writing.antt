@@ -11,12 +11,13 @@ use Rattle.whole.specs.Lists.{build}
 use Rattle.whole.proofs.Lists.{build-length, build-at}
 use Rattle.digits.specs.Lines.{digitsOf, restText, lineText}
 use Rattle.digits.specs.Writes.{written, afterWriting}
-use Rattle.digits.specs.declared.Written.the-variants.{To}
+use Rattle.digits.specs.declared.Written.{Written}
+use Rattle.digits.specs.declared.Written.the-variants.{To, NoRoom}
 use Rattle.digits.proofs.Lines.{line-at-most, line-starts}
 use Rattle.digits.proofs.Stores.{rest-of, stores-after}
 use Rattle.text.specs.Texts.{textOf}
-use Rattle.corridor.specs.Layout.{countAt}
-use Rattle.period.specs.Sheet.{flowIn, offFlowIn, onFlowIn, modeIn}
+use Rattle.layout.specs.Layout.{countAt}
+use Rattle.layout.specs.Sheet.{flowIn, offFlowIn, onFlowIn, modeIn}
 use Rattle.steps.specs.Lines.{entryRecord, cellRecord, periodText}
 
 -- a line of seven numbers has room
@@ -30,6 +31,13 @@ pub written-to : (out bytes : List ℕ) (at : ℕ) → at + length bytes ≤ len
     → (written out at bytes ≡ To (at + length bytes)) × (afterWriting out at bytes ≡ sets out at bytes)
 unfolding written afterWriting
 written-to out bytes at fits = (rw (le-leb (at + length bytes) (length out) fits), rw (le-leb (at + length bytes) (length out) fits))
+
+-- what was written ends at one place
+pub same-end : {w : Written} {end place : ℕ} → w ≡ To end → w ≡ To place → end ≡ place
+same-end p q = cc
+
+pub had-room : {w : Written} {place : ℕ} → w ≡ NoRoom → w ≡ To place → ⊥
+had-room p q = let z : _≡_ {A = ℕ} 0 1 = cc in omega arith
 
 -- the cells' lines from the one of index i on
 module _ (k n : ℕ) (state sheet : List ℕ) where

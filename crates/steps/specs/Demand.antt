@@ -8,22 +8,24 @@ use lib.Dec.{leb, eqb}
 use lib.ListN.{length, set}
 use lib.Seq.{sets}
 use Rattle.whole.specs.Search.{pick}
-use Rattle.text.specs.Scans.{begin, feed, ended}
+use Rattle.scans.specs.Scans.{begin, feed, ended}
 use Rattle.text.specs.Reads.{rowAtEnd}
-use Rattle.text.specs.declared.Scan.{Scan}
-use Rattle.text.specs.declared.Step.{Step}
-use Rattle.text.specs.declared.Step.the-variants.{More, Field, Complete, Breaks}
-use Rattle.corridor.specs.declared.Answer.{Answer}
-use Rattle.corridor.specs.declared.Answer.the-variants.{Accepted, Refused}
-use Rattle.corridor.specs.Layout.{cells, demandLength}
-use Rattle.corridor.specs.Checks.{answer}
+use Rattle.scans.specs.declared.Scan.{Scan}
+use Rattle.scans.specs.declared.Step.{Step}
+use Rattle.scans.specs.declared.Step.the-variants.{More, Field, Complete, Breaks}
+use Rattle.refusals.specs.declared.Answer.{Answer}
+use Rattle.refusals.specs.declared.Answer.the-variants.{Accepted, Refused}
+use Rattle.layout.specs.Layout.{cells, demandLength}
+use Rattle.refusals.specs.Checks.{answer}
 use Rattle.corridor.specs.Acceptance.{stateChecks}
 use Rattle.period.specs.Sharing.{asymmetric}
-use Rattle.period.specs.Period.{sheetLength, sheetOf, stateAfter}
-use Rattle.steps.specs.Lines.{stopText, broken, refusedIn}
-use Rattle.steps.specs.Files.{counted}
+use Rattle.period.specs.Period.{sheetOf, stateAfter}
+use Rattle.layout.specs.Sheet.{sheetLength}
+use Rattle.files.specs.Stops.{broken, refusedIn}
+use Rattle.files.specs.Files.{counted}
+use Rattle.files.specs.declared.Stop.{Stop}
+use Rattle.steps.specs.Lines.{stopText}
 use Rattle.steps.specs.Turns.{Did, didEnd, didText, whenPassed, rowAnswer, linesOf}
-use Rattle.steps.specs.declared.Stop.{Stop}
 use Rattle.steps.specs.declared.Run.{Run}
 use Rattle.steps.specs.declared.Run.the-variants.{On, Over, Unfit}
 

@@ -1,5 +1,4 @@
 pub mod Lines
-pub mod Files
 pub mod Turns
 pub mod Demand
 pub mod Program

@@ -10,11 +10,9 @@ use Rattle.digits.specs.Lines.{LF, CR, lineText}
 use Rattle.digits.specs.declared.Written.{Written}
 use Rattle.digits.specs.declared.Written.the-variants.{To, NoRoom}
 use Rattle.text.specs.Texts.{textOf}
-use Rattle.corridor.specs.declared.Refusal.{Refusal}
-use Rattle.corridor.specs.Refusals.{numberOf, placeOf}
-use Rattle.corridor.specs.Layout.{entryQueue, countAt}
-use Rattle.period.specs.Sheet.{flowIn, offFlowIn, onFlowIn, modeIn}
-use Rattle.steps.specs.declared.Stop.{Stop}
+use Rattle.layout.specs.Layout.{entryQueue, countAt}
+use Rattle.layout.specs.Sheet.{flowIn, offFlowIn, onFlowIn, modeIn}
+use Rattle.files.specs.declared.Stop.{Stop}
 
 -- the header: k,i,n,f,s,r,mode
 abbrev pub HEADER : List ℕ
@@ -40,14 +38,6 @@ stopRecord stop = stop .period ∷ stop .place ∷ stop .number ∷ stop .file �
 
 unfoldable pub stopText : Stop → List ℕ
 stopText stop = lineText (stopRecord stop)
-
--- number 12, with the record and the file; a file that is missing has place 0
-abbrev pub broken : ℕ → ℕ → ℕ → Stop
-broken period place file = record { period = period; place = place; number = 12; file = file }
-
--- any other number
-abbrev pub refusedIn : ℕ → Refusal → Stop
-refusedIn period refusal = record { period = period; place = placeOf refusal; number = numberOf refusal; file = 0 }
 
 -- a line at the start of an output, where that has room for the longest
 unfoldable pub lineWritten : List ℕ → List ℕ → Written

@@ -3,27 +3,28 @@ use Prim.Native.Nat.{ℕ, _+_}
 use mathlib.Core.List.{List, [], _∷_, _++_}
 use lib.ListN.{set}
 use Rattle.whole.specs.Lists.{build}
-use Rattle.text.specs.Scans.{begin, feed, ended}
+use Rattle.scans.specs.Scans.{begin, feed, ended}
 use Rattle.text.specs.Reads.{held, numbers, rowAtEnd}
-use Rattle.text.specs.declared.Scan.{Scan}
-use Rattle.text.specs.declared.Step.{Step}
-use Rattle.text.specs.declared.Step.the-variants.{More, Field, Complete, Breaks}
-use Rattle.text.specs.declared.End.{End}
-use Rattle.text.specs.declared.End.the-variants.{Nothing, Last, Cut}
+use Rattle.scans.specs.declared.Scan.{Scan}
+use Rattle.scans.specs.declared.Step.{Step}
+use Rattle.scans.specs.declared.Step.the-variants.{More, Field, Complete, Breaks}
+use Rattle.scans.specs.declared.End.{End}
+use Rattle.scans.specs.declared.End.the-variants.{Nothing, Last, Cut}
 use Rattle.text.specs.declared.Text.{Text}
 use Rattle.text.specs.declared.Text.the-variants as Text
-use Rattle.corridor.specs.declared.Answer.{Answer}
-use Rattle.corridor.specs.declared.Answer.the-variants.{Accepted, Refused}
-use Rattle.corridor.specs.Layout.{cells, stateLength, demandLength}
+use Rattle.refusals.specs.declared.Answer.{Answer}
+use Rattle.refusals.specs.declared.Answer.the-variants.{Accepted, Refused}
+use Rattle.layout.specs.Layout.{cells, stateLength, demandLength}
 use Rattle.period.specs.Sharing.{asymmetric}
 use Rattle.period.specs.Period.{stateAfter}
-use Rattle.steps.specs.Lines.{HEADER, stopText, broken, refusedIn}
-use Rattle.steps.specs.Files.{cellsFound, stateFound, demandLost}
+use Rattle.files.specs.Stops.{broken, refusedIn}
+use Rattle.files.specs.Files.{cellsFound, stateFound, demandLost}
+use Rattle.files.specs.declared.File.{File}
+use Rattle.files.specs.declared.File.the-variants.{Holds, BrokenAt, Lost}
+use Rattle.files.specs.declared.Found.{Found}
+use Rattle.files.specs.declared.Found.the-variants.{Go, Halt}
+use Rattle.steps.specs.Lines.{HEADER, stopText}
 use Rattle.steps.specs.Turns.{rowAnswer, linesOf}
-use Rattle.steps.specs.declared.File.{File}
-use Rattle.steps.specs.declared.File.the-variants.{Holds, BrokenAt, Lost}
-use Rattle.steps.specs.declared.Found.{Found}
-use Rattle.steps.specs.declared.Found.the-variants.{Go, Halt}
 
 -- a file: its text, or nothing where it is missing
 pub data Given : Type 0 where

@@ -5,21 +5,21 @@ use mathlib.Core.Path.{_≡_}
 use mathlib.Core.List.{List, [], _∷_, _++_}
 use lib.ListN.{length, take, drop}
 use Rattle.text.specs.Texts.{together}
-use Rattle.text.specs.Scans.{begin}
-use Rattle.text.specs.declared.Scan.{Scan}
-use Rattle.corridor.specs.Layout.{stateLength}
-use Rattle.period.specs.Period.{sheetLength}
+use Rattle.scans.specs.Scans.{begin}
+use Rattle.scans.specs.declared.Scan.{Scan}
+use Rattle.layout.specs.Layout.{stateLength}
+use Rattle.layout.specs.Sheet.{sheetLength}
+use Rattle.files.specs.Files.{fileOn, fileEnd, cellsFound, stateFound, demandLost}
+use Rattle.files.specs.declared.Stop.{Stop}
+use Rattle.files.specs.declared.Reading.{Reading}
+use Rattle.files.specs.declared.Reading.the-variants.{On}
+use Rattle.files.specs.declared.File.{File}
+use Rattle.files.specs.declared.File.the-variants.{Lost}
+use Rattle.files.specs.declared.Found.{Found}
+use Rattle.files.specs.declared.Found.the-variants.{Go, Halt}
 use Rattle.steps.specs.Lines.{HEADER, stopText}
-use Rattle.steps.specs.Files.{fileOn, fileEnd, cellsFound, stateFound, demandLost}
 use Rattle.steps.specs.Demand.{Followed, later, over, follow, followEnd}
 use Rattle.steps.specs.Program.{Given, missing, text, zeros}
-use Rattle.steps.specs.declared.Stop.{Stop}
-use Rattle.steps.specs.declared.Reading.{Reading}
-use Rattle.steps.specs.declared.Reading.the-variants.{On}
-use Rattle.steps.specs.declared.File.{File}
-use Rattle.steps.specs.declared.File.the-variants.{Lost}
-use Rattle.steps.specs.declared.Found.{Found}
-use Rattle.steps.specs.declared.Found.the-variants.{Go, Halt}
 
 -- a file as it is read: in chunks, or not there
 pub data Read : Type 0 where

@@ -3,17 +3,17 @@ ghost use mathlib.Core.Path.{_≡_};
 ghost use Prim.Native.Nat.{_-_, _≤_};
 ghost use lib.Dec.{leb};
 ghost use lib.ListN.{length};
-ghost use Rattle.corridor.specs.Layout.{cells};
+ghost use Rattle.layout.specs.Layout.{cells};
 ghost use Rattle.steps.specs.Turns.{Ready};
 ghost use Rattle.steps.specs.Demand.{linesRoom, follow, followEnd, runFits, followCall, endCall, Leaves};
 use crate::Run;
 use crate::Turn;
-use crate::files::counted;
 use crate::turns::last_turn;
 use crate::turns::turn;
-use corridor::Answer;
-use corridor::layout::cells;
-use text::Scan;
+use files::counted;
+use layout::cells;
+use refusals::Answer;
+use scans::Scan;
 
 // Whether the lines of a period of n cells have room after a position.
 fn has_room(size: usize, at: usize, n: usize) -> bool
@@ -79,7 +79,7 @@ fn follow_run(
             Turn::Period { next, at: to } => {
                 from = next;
                 at = to;
-                scan = text::begin();
+                scan = scans::begin();
                 k = counted(k);
             }
             Turn::Over(to) => {

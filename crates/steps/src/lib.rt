@@ -1,47 +1,11 @@
-// The steps of the run program: what is read of its three files, what is refused and in which order, and every byte that it
-// writes. They work on lists and values, and a file may come in chunks of any size; the program opens files and moves bytes.
+// The steps of the run program: how the demand is followed, what is refused and in which order, and every byte that is written; the
+// cells and the state are read in `files`. They work on lists and values, and a file may come in chunks of any size; the program opens
+// files and moves bytes.
 pub mod demand;
-pub mod files;
 pub mod lines;
 mod turns;
 
-use text::Scan;
-
-// How far the records of a file are read.
-pub enum Reading {
-    // So many records are complete, the next number goes to this index of the list, and the reading stands here.
-    On {
-        records: usize,
-        index: usize,
-        scan: Scan,
-    },
-    // The first record that breaks a rule, counted from 1.
-    Broken(usize),
-}
-
-// A file that is read to its end.
-pub enum File {
-    // So many records.
-    Holds(usize),
-    // The first record that breaks a rule, counted from 1.
-    BrokenAt(usize),
-    // It is missing, or could not be read to its end.
-    Lost,
-}
-
-// A refusal's line.
-pub struct Stop {
-    pub period: usize,
-    pub place: usize,
-    pub number: u32,
-    pub file: u32,
-}
-
-// What a file comes to: the program goes on with so many records, or ends.
-pub enum Found {
-    Go(usize),
-    Halt(Stop),
-}
+use scans::Scan;
 
 // What reading on in the demand comes to.
 pub enum Turn {

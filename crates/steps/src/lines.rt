@@ -6,13 +6,13 @@ ghost use lib.Seq.{sets};
 ghost use Rattle.whole.specs.Lists.{build};
 ghost use Rattle.digits.specs.Lines.{digitsOf, lineText};
 ghost use Rattle.text.specs.Texts.{textOf};
-ghost use Rattle.corridor.specs.Layout.{stateLength};
-ghost use Rattle.period.specs.Period.{sheetLength};
+ghost use Rattle.layout.specs.Layout.{stateLength};
+ghost use Rattle.layout.specs.Sheet.{sheetLength};
 ghost use Rattle.steps.specs.Lines.{HEADER, entryRecord, cellRecord, periodText, stopText, lineWritten, afterLine};
-use crate::Stop;
-use corridor::layout::*;
 use digits::Written;
-use period::sheet::*;
+use files::Stop;
+use layout::sheet::*;
+use layout::*;
 
 fn wide(number: u32) -> u64
     ensures { λ r. ⌜ r ≡ number ⌝ }

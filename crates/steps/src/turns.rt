@@ -2,20 +2,20 @@
 ghost use mathlib.Core.Path.{_≡_};
 ghost use Prim.Native.Nat.{_+_, _*_, _≤_};
 ghost use lib.ListN.{length, drop};
-ghost use Rattle.text.specs.Scans.{ended};
+ghost use Rattle.scans.specs.Scans.{ended};
 ghost use Rattle.text.specs.Reads.{readOn, rowOn, rowAtEnd};
-ghost use Rattle.corridor.specs.Layout.{cells};
+ghost use Rattle.layout.specs.Layout.{cells};
 ghost use Rattle.steps.specs.Turns.{didRow, did, didEnd, rowAnswer, Turned, Ready};
 use crate::Turn;
-use crate::files::broken;
-use crate::files::refused_in;
 use crate::lines::put_period;
 use crate::lines::put_stop;
-use corridor::Answer;
-use corridor::layout::cells;
-use text::End;
+use files::broken;
+use files::refused_in;
+use layout::cells;
+use refusals::Answer;
+use scans::End;
+use scans::Scan;
 use text::Read;
-use text::Scan;
 
 // A complete row of period k: 6 and 7, then its period and its lines.
 fn run_row(

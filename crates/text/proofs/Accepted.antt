@@ -8,19 +8,19 @@ use borrow.Author.Tests.{ne-eqb}
 use lib.ListN.{length, length-append}
 use Rattle.digits.proofs.Digits.{one-digit, more-digits}
 use Rattle.digits.specs.Lines.{LF, CR, COMMA, DIGIT, digitsOf, furtherText, recordText, lineText}
-use Rattle.text.proofs.Fed.{Fed, first-digit, next-digit, comma, return, line, breaks, fed}
+use Rattle.scans.proofs.Fed.{Fed, first-digit, next-digit, comma, return, line, breaks, fed}
 use Rattle.text.proofs.ReadBack.{one-more, together-one-more, no-text, open-text, text-after}
-use Rattle.text.specs.Texts.{LARGEST, LONGEST, textOf, Small, none, and, Fits, AllFit, none-left, and-then, TextOf, left-open, together}
+use Rattle.text.specs.Texts.{textOf, Small, none, and, Fits, AllFit, none-left, and-then, TextOf, left-open, together}
+use Rattle.scans.specs.Scans.{LARGEST, LONGEST, begin, feed, ended}
 use Rattle.text.specs.Texts as texts
-use Rattle.text.specs.Scans.{begin, feed, ended}
-use Rattle.text.specs.Scans as scans
+use Rattle.scans.specs.Scans as scans
 use Rattle.text.specs.Reads.{endOf, textFrom, textOn, numbersFrom, numbersOn, held, numbers}
-use Rattle.text.specs.declared.Scan.{Scan}
-use Rattle.text.specs.declared.Scan.the-variants.{Start, Number, Return}
-use Rattle.text.specs.declared.Step.{Step}
-use Rattle.text.specs.declared.Step.the-variants.{More, Field, Complete, Breaks}
-use Rattle.text.specs.declared.End.{End}
-use Rattle.text.specs.declared.End.the-variants.{Nothing, Last, Cut}
+use Rattle.scans.specs.declared.Scan.{Scan}
+use Rattle.scans.specs.declared.Scan.the-variants.{Start, Number, Return}
+use Rattle.scans.specs.declared.Step.{Step}
+use Rattle.scans.specs.declared.Step.the-variants.{More, Field, Complete, Breaks}
+use Rattle.scans.specs.declared.End.{End}
+use Rattle.scans.specs.declared.End.the-variants.{Nothing, Last, Cut}
 use Rattle.text.specs.declared.Text.{Text}
 use Rattle.text.specs.declared.Text.the-variants.{Holds, BrokenAt}
 

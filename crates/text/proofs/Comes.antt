@@ -9,19 +9,18 @@ use lib.Dec.{leb}
 use lib.ListN.{length, getD, drop, set}
 use Rattle.digits.proofs.Stores.{rest-of}
 use Rattle.digits.specs.Lines.{COMMA, DIGIT}
-use Rattle.text.proofs.Tests.{both}
-use Rattle.text.proofs.Fed.{feeds-comma}
-use Rattle.text.specs.Texts.{LONGEST}
-use Rattle.text.specs.Scans.{isDigit, atStart, longer, inNumber, feed}
+use Rattle.scans.proofs.Tests.{both}
+use Rattle.scans.proofs.Fed.{feeds-comma}
+use Rattle.scans.specs.Scans.{LONGEST, isDigit, atStart, longer, inNumber, feed}
 use Rattle.text.specs.Reads.{readOf, readOn, rowOf, rowOn}
 use Rattle.text.specs.Fields.{Comes, DigitsRead, FieldRead, AfterFirst, FromStart, FieldsRead}
 use Rattle.text.specs.declared.Digits.{Digits}
 use Rattle.text.specs.declared.Begun.{Begun}
 use Rattle.text.specs.declared.Begun.the-variants.{Whole, Other}
-use Rattle.text.specs.declared.Scan.{Scan}
-use Rattle.text.specs.declared.Scan.the-variants.{Start, Number}
-use Rattle.text.specs.declared.Step.{Step}
-use Rattle.text.specs.declared.Step.the-variants.{More, Field}
+use Rattle.scans.specs.declared.Scan.{Scan}
+use Rattle.scans.specs.declared.Scan.the-variants.{Start, Number}
+use Rattle.scans.specs.declared.Step.{Step}
+use Rattle.scans.specs.declared.Step.the-variants.{More, Field}
 
 pub stays : (chunk : List ℕ) (fields at : ℕ) (scan : Scan) (row : List ℕ) → Comes chunk fields at scan row at scan row
 stays chunk fields at scan row = record { answer = refl; stores = refl }

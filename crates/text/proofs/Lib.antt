@@ -1,5 +1,3 @@
-pub mod Tests
-pub mod Fed
 pub mod Comes
 pub mod Reading
 pub mod Pieces

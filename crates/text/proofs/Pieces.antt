@@ -4,11 +4,11 @@ use mathlib.Core.Path.{_≡_, refl, ap, sym, _∙_}
 use mathlib.Core.List.{List, [], _∷_, _++_}
 use native.Mathlib.Omega.{arith}
 use lib.ListN.{length, set, drop}
-use Rattle.text.specs.Scans.{begin, feed, ended}
+use Rattle.scans.specs.Scans.{begin, feed, ended}
 use Rattle.text.specs.Reads.{readOf, readOn, rowOf, rowOn, endOf, textFrom, textOn}
-use Rattle.text.specs.declared.Scan.{Scan}
-use Rattle.text.specs.declared.Step.{Step}
-use Rattle.text.specs.declared.Step.the-variants.{More, Field, Complete, Breaks}
+use Rattle.scans.specs.declared.Scan.{Scan}
+use Rattle.scans.specs.declared.Step.{Step}
+use Rattle.scans.specs.declared.Step.the-variants.{More, Field, Complete, Breaks}
 use Rattle.text.specs.declared.Read.{Read}
 use Rattle.text.specs.declared.Read.the-variants.{Record, Part, Broken}
 use Rattle.text.specs.declared.Text.{Text}

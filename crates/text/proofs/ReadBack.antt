@@ -12,15 +12,15 @@ use lib.ListN.{length, set, length-append}
 use lib.Seq.{sets, sets-eq, drop-length}
 use Rattle.digits.proofs.Digits.{one-digit, more-digits}
 use Rattle.digits.specs.Lines.{LF, CR, DIGIT, digitsOf, furtherText, recordText, lineText}
-use Rattle.text.proofs.Fed.{feeds-first, feeds-next, feeds-comma, feeds-return, feeds-line}
-use Rattle.text.specs.Texts.{LARGEST, LONGEST, textOf, Small, none, and, Fits, AllFit, none-left, and-then, TextOf, ended, left-open, together}
-use Rattle.text.specs.Scans.{begin, feed}
-use Rattle.text.specs.Scans as scans
+use Rattle.scans.proofs.Fed.{feeds-first, feeds-next, feeds-comma, feeds-return, feeds-line}
+use Rattle.text.specs.Texts.{textOf, Small, none, and, Fits, AllFit, none-left, and-then, TextOf, ended, left-open, together}
+use Rattle.scans.specs.Scans.{LARGEST, LONGEST, begin, feed}
+use Rattle.scans.specs.Scans as scans
 use Rattle.text.specs.Reads.{readOf, readOn, rowOf, rowOn, rowAtEnd, textFrom, textOn, numbersFrom, numbersOn, held, numbers}
-use Rattle.text.specs.declared.Scan.{Scan}
-use Rattle.text.specs.declared.Scan.the-variants.{Start, Number, Return}
-use Rattle.text.specs.declared.Step.the-variants.{More, Field}
-use Rattle.text.specs.declared.End.the-variants.{Last}
+use Rattle.scans.specs.declared.Scan.{Scan}
+use Rattle.scans.specs.declared.Scan.the-variants.{Start, Number, Return}
+use Rattle.scans.specs.declared.Step.the-variants.{More, Field}
+use Rattle.scans.specs.declared.End.the-variants.{Last}
 use Rattle.text.specs.declared.Read.the-variants.{Record, Part}
 use Rattle.text.specs.declared.Text.the-variants.{Holds}
 

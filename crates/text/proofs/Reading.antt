@@ -9,14 +9,14 @@ use lib.ListN.{length, getD, drop, set, length-set, drop-of-length-le}
 use lib.Seq.{sets}
 use Rattle.digits.proofs.Stores.{rest-of}
 use Rattle.digits.specs.Lines.{CR}
-use Rattle.text.specs.Scans.{begin, atStart, feed, untouched, ended}
+use Rattle.scans.specs.Scans.{begin, atStart, feed, untouched, ended}
 use Rattle.text.specs.Reads.{readOf, readOn, rowOf, rowOn, endOf, textFrom, textOn, numbersFrom, numbersOn, held, numbers}
-use Rattle.text.specs.declared.Scan.{Scan}
-use Rattle.text.specs.declared.Scan.the-variants.{Start, Number, Return}
-use Rattle.text.specs.declared.Step.{Step}
-use Rattle.text.specs.declared.Step.the-variants.{More, Field, Complete, Breaks}
-use Rattle.text.specs.declared.End.{End}
-use Rattle.text.specs.declared.End.the-variants.{Nothing}
+use Rattle.scans.specs.declared.Scan.{Scan}
+use Rattle.scans.specs.declared.Scan.the-variants.{Start, Number, Return}
+use Rattle.scans.specs.declared.Step.{Step}
+use Rattle.scans.specs.declared.Step.the-variants.{More, Field, Complete, Breaks}
+use Rattle.scans.specs.declared.End.{End}
+use Rattle.scans.specs.declared.End.the-variants.{Nothing}
 use Rattle.text.specs.declared.Read.the-variants.{Record, Part, Broken}
 use Rattle.text.specs.declared.Text.the-variants.{BrokenAt}
 

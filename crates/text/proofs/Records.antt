@@ -10,18 +10,18 @@ use lib.Dec.{eqb}
 use lib.ListN.{length, length-append}
 use Rattle.whole.specs.Search.{pick}
 use Rattle.digits.specs.Lines.{CR, recordText, lineText}
-use Rattle.text.proofs.Fed.{Fed, next-digit, comma, return, breaks, fed}
+use Rattle.scans.proofs.Fed.{Fed, next-digit, comma, return, breaks, fed}
 use Rattle.text.proofs.ReadBack.{row-reads-back}
 use Rattle.text.proofs.Accepted.{SoFar, at-start, in-number, at-return, After, one-byte-on, nothing-yet, closes, record-and, startText}
 use Rattle.text.specs.Texts.{Fits}
-use Rattle.text.specs.Scans.{begin, feed, ended}
-use Rattle.text.specs.Scans as scans
+use Rattle.scans.specs.Scans.{begin, feed, ended}
+use Rattle.scans.specs.Scans as scans
 use Rattle.text.specs.Reads.{readOf, readOn, rowOn}
-use Rattle.text.specs.declared.Scan.{Scan}
-use Rattle.text.specs.declared.Scan.the-variants.{Start, Number, Return}
-use Rattle.text.specs.declared.Step.{Step}
-use Rattle.text.specs.declared.Step.the-variants.{More, Field, Complete, Breaks}
-use Rattle.text.specs.declared.End.the-variants.{Nothing, Last, Cut}
+use Rattle.scans.specs.declared.Scan.{Scan}
+use Rattle.scans.specs.declared.Scan.the-variants.{Start, Number, Return}
+use Rattle.scans.specs.declared.Step.{Step}
+use Rattle.scans.specs.declared.Step.the-variants.{More, Field, Complete, Breaks}
+use Rattle.scans.specs.declared.End.the-variants.{Nothing, Last, Cut}
 use Rattle.text.specs.declared.Read.the-variants.{Record, Part, Broken}
 
 not-record : {s : Scan} {after : ℕ} → Part s ≡ Record after → ⊥

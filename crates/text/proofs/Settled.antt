@@ -3,10 +3,6 @@
 use denote.Ref.{now}
 use Rattle.whole.proofs.Settles.{Settles, settled}
 use Rattle.digits.proofs.Settled.{SettlesLater}
-use Rattle.text.proofs.begin.Kinds as begin-kinds
-use Rattle.text.proofs.begin.Reads as begin
-use Rattle.text.proofs.feed.Kinds as feed-kinds
-use Rattle.text.proofs.feed.Reads as feed
 use Rattle.text.proofs.read_record.Kinds as read-record-kinds
 use Rattle.text.proofs.read_record.Reads as read-record
 use Rattle.text.proofs.finish.Kinds as finish-kinds
@@ -15,12 +11,6 @@ use Rattle.text.proofs.read_text.Kinds as read-text-kinds
 use Rattle.text.proofs.read_text.Reads as read-text
 use Rattle.text.proofs.read_one.Kinds as read-one-kinds
 use Rattle.text.proofs.read_one.Reads as read-one
-
-pub begin-settles : Settles _ begin-kinds.ps begin-kinds.r begin.Learnt
-begin-settles κs a y z e f = settled
-
-pub feed-settles : Settles _ feed-kinds.ps feed-kinds.r feed.Learnt
-feed-settles κs a y z e f = settled
 
 pub read-record-settles : Settles _ read-record-kinds.ps read-record-kinds.r read-record.Learnt
 read-record-settles κs a y z e f p q = settled (p .0) (q .0)

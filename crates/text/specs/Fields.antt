@@ -3,10 +3,10 @@ use Prim.Native.Nat.{ℕ, _+_, _-_, _≤_, _<_}
 use mathlib.Core.Path.{_≡_}
 use mathlib.Core.List.{List}
 use lib.ListN.{length, drop, set}
-use Rattle.text.specs.Texts.{LONGEST}
+use Rattle.scans.specs.Scans.{LONGEST}
 use Rattle.text.specs.Reads.{readOn, rowOn}
-use Rattle.text.specs.declared.Scan.{Scan}
-use Rattle.text.specs.declared.Scan.the-variants.{Start, Number}
+use Rattle.scans.specs.declared.Scan.{Scan}
+use Rattle.scans.specs.declared.Scan.the-variants.{Start, Number}
 use Rattle.text.specs.declared.Digits.{Digits}
 use Rattle.text.specs.declared.Begun.{Begun}
 use Rattle.text.specs.declared.Begun.the-variants.{Whole, Other}

@@ -1,4 +1,3 @@
 pub mod Texts
-pub mod Scans
 pub mod Reads
 pub mod Fields

@@ -6,12 +6,12 @@ use lib.ListN.{set}
 use lib.Seq.{sets}
 use Rattle.whole.specs.Search.{pick}
 use Rattle.digits.specs.Lines.{CR}
-use Rattle.text.specs.Scans.{begin, feed, ended}
-use Rattle.text.specs.declared.Scan.{Scan}
-use Rattle.text.specs.declared.Step.{Step}
-use Rattle.text.specs.declared.Step.the-variants.{More, Field, Complete, Breaks}
-use Rattle.text.specs.declared.End.{End}
-use Rattle.text.specs.declared.End.the-variants.{Nothing, Last, Cut}
+use Rattle.scans.specs.Scans.{begin, feed, ended}
+use Rattle.scans.specs.declared.Scan.{Scan}
+use Rattle.scans.specs.declared.Step.{Step}
+use Rattle.scans.specs.declared.Step.the-variants.{More, Field, Complete, Breaks}
+use Rattle.scans.specs.declared.End.{End}
+use Rattle.scans.specs.declared.End.the-variants.{Nothing, Last, Cut}
 use Rattle.text.specs.declared.Read.{Read}
 use Rattle.text.specs.declared.Read.the-variants.{Record, Part, Broken}
 use Rattle.text.specs.declared.Text.{Text}

@@ -3,15 +3,8 @@ use Prim.Native.Nat.{ℕ, _≤_}
 use mathlib.Core.Path.{_≡_}
 use mathlib.Core.List.{List, [], _∷_, _++_}
 use lib.ListN.{length}
+use Rattle.scans.specs.Scans.{LARGEST, LONGEST}
 use Rattle.digits.specs.Lines.{recordText, lineText}
-
--- the largest number that a field holds
-abbrev pub LARGEST : ℕ
-LARGEST = 4294967295
-
--- the most bytes that a record has before its end
-abbrev pub LONGEST : ℕ
-LONGEST = 16384
 
 -- records, each with its end
 unfoldable pub textOf : List (List ℕ) → List ℕ

@@ -2,15 +2,15 @@
 // for all of them. Whatever else stands there is left to the reading byte after byte.
 ghost use Prim.Native.Nat.{_+_, _-_, _≤_, _<_};
 ghost use lib.ListN.{length};
-ghost use Rattle.text.specs.Texts.{LONGEST};
+ghost use Rattle.scans.specs.Scans.{LONGEST};
 ghost use Rattle.text.specs.Fields.{Comes, DigitsRead, AfterFirst, FromStart, FieldsRead};
 use crate::Begun;
 use crate::Digits;
 use crate::Opened;
 use crate::Place;
-use crate::Scan;
-use crate::field::followed;
-use crate::field::is_digit;
+use scans::Scan;
+use scans::field::followed;
+use scans::field::is_digit;
 
 // The digits from an index on, after those that make `first`. A number below 400,000,000 has room for one digit more.
 fn more_digits(chunk: &[u8], from: usize, stop: usize, first: u32) -> Digits

@@ -2,64 +2,24 @@
 // pieces of any size.
 ghost use mathlib.Core.Path.{_≡_};
 ghost use lib.ListN.{length, drop};
-ghost use Rattle.text.specs.Scans.{begin, feed, ended};
+ghost use Rattle.scans.specs.Scans.{feed, ended};
 ghost use Rattle.text.specs.Reads.{readOn, rowOn, rowAtEnd, held, numbers, fit, stored, one};
 
-mod field;
 mod fields;
+mod store;
 mod whole_text;
 
-use field::at_start;
-use field::in_number;
-use field::put;
 use fields::open_fields;
+use scans::End;
+use scans::Scan;
+use scans::Step;
+use scans::feed;
+use store::put;
 use whole_text::check_text;
 use whole_text::fit;
 use whole_text::one;
 use whole_text::store_text;
 use whole_text::unfinished;
-
-// Where the reading stands inside a record: `field` of its fields are complete, and `bytes` of its bytes are read.
-pub enum Scan {
-    // No digit of the next field is read yet.
-    Start {
-        field: usize,
-        bytes: usize,
-    },
-    // The digits of a field so far make `value`.
-    Number {
-        field: usize,
-        bytes: usize,
-        value: u32,
-    },
-    // The last field is complete, and the CR after it is read.
-    Return,
-}
-
-// What one byte does.
-pub enum Step {
-    More(Scan),
-    // The field of this index is complete.
-    Field {
-        field: usize,
-        number: u32,
-        next: Scan,
-    },
-    // The record is complete.
-    Complete,
-    // The record breaks a rule.
-    Breaks,
-}
-
-// What the end of the text does.
-pub enum End {
-    // It comes between records.
-    Nothing,
-    // It ends the last record, as CR LF would.
-    Last,
-    // It comes inside a record, which breaks it.
-    Cut,
-}
 
 // What reading on in a chunk finds.
 pub enum Read {
@@ -105,34 +65,6 @@ struct Place {
 struct Opened {
     scan: Scan,
     at: usize,
-}
-
-// Where a record's reading begins.
-pub fn begin() -> Scan
-    ensures { λ r. ⌜ r ≡ begin ⌝ }
-{
-    Scan::Start { field: 0, bytes: 0 }
-}
-
-// What one byte does in a record of so many fields.
-pub fn feed(scan: Scan, byte: u8, fields: usize) -> Step
-    ensures { λ r. ⌜ r ≡ feed scan byte fields ⌝ }
-{
-    match scan {
-        Scan::Number {
-            field,
-            bytes,
-            value,
-        } => in_number(field, bytes, value, byte, fields),
-        Scan::Start { field, bytes } => at_start(field, bytes, byte),
-        Scan::Return => {
-            if byte == b'\n' {
-                Step::Complete
-            } else {
-                Step::Breaks
-            }
-        }
-    }
 }
 
 // Reads on in a chunk from an index, byte after byte, to the end of the record and no further.
@@ -188,11 +120,11 @@ pub fn finish(scan: Scan, row: &mut [u32]) -> End
     let step = feed(scan, b'\r', row.len());
     match step {
         Step::Field {
-            field,
+            field: last,
             number,
             next: _,
         } => {
-            put(row, field, number);
+            put(row, last, number);
             End::Last
         }
         Step::More(_) => unfinished(scan),

@@ -2,15 +2,15 @@
 ghost use mathlib.Core.Path.{_≡_};
 ghost use lib.Seq.{sets};
 ghost use Rattle.whole.specs.Search.{pick};
-ghost use Rattle.text.specs.Scans.{untouched, ended};
+ghost use Rattle.scans.specs.Scans.{untouched, ended};
 ghost use Rattle.text.specs.Reads.{held, numbers, fit, one};
-use crate::End;
-use crate::Scan;
-use crate::Step;
 use crate::Text;
-use crate::begin;
-use crate::feed;
-use crate::field::put;
+use crate::store::put;
+use scans::End;
+use scans::Scan;
+use scans::Step;
+use scans::begin;
+use scans::feed;
 
 // The text ends where no last field does: between records, or inside one.
 pub(crate) fn unfinished(scan: Scan) -> End

@@ -1,9 +1,9 @@
 // Reads good and damaged texts through the public functions and writes what was found, which is held to the stored
 // output. Each list holds 7s before.
 use digits::Written;
-use text::End;
+use scans::End;
+use scans::Scan;
 use text::Read;
-use text::Scan;
 use text::Text;
 
 fn wide(number: u32) -> u64 {
@@ -100,7 +100,7 @@ fn last_piece(scan: Scan, bytes: &[u8], given: [u32; 4]) {
 // A record of four fields that comes in two pieces.
 fn pieces(first: &[u8], second: &[u8]) {
     let mut row = [7u32; 4];
-    let read = text::read_record(first, 0, text::begin(), &mut row);
+    let read = text::read_record(first, 0, scans::begin(), &mut row);
     match read {
         Read::Record(_) => {
             io::write_all(1, b"a record in the first piece: ");

@@ -37,10 +37,7 @@ balance zero entry before after joins leaves flow each = omega arith
 balance (suc n) entry before after joins leaves flow each =
     omega (arith, balance n entry before after joins leaves flow (λ i h. each i (omega arith)), each n (omega arith))
 
--- the value at a position that is the entry, and at one that is a cell
-pub at-entry {ℓ} : {A : Type ℓ} (entry : A) (cell : ℕ → A) (position : ℕ) → position ≡ 0 → atPosition entry cell position ≡ entry
-at-entry entry cell position e = rw e
-
+-- the value at a position that is a cell
 pub at-cell {ℓ} : {A : Type ℓ} (entry : A) (cell : ℕ → A) (position : ℕ) → (position ≡ 0 → ⊥) → atPosition entry cell position ≡ cell (position - 1)
 at-cell entry cell zero other = absurd (other refl)
 at-cell entry cell (suc i) other = ap cell (omega arith)

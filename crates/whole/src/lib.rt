@@ -1,4 +1,4 @@
-// Whole numbers: the smaller of two, and a share over ONE rounded down. The definitions and laws of lists, sums and
+// Whole numbers: the smaller of two, a share over ONE rounded down, and a number in a range. The definitions and laws of lists, sums and
 // searches over an index that every other crate cites stand in specs/ and proofs/.
 ghost use mathlib.Core.Path.{_≡_};
 ghost use Prim.Native.Nat.{min};

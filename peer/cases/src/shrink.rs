@@ -72,6 +72,22 @@ fn without_rows(table: &[u32], range: &std::ops::Range<usize>) -> Vec<u32> {
     [&table[..from], &table[to..]].concat()
 }
 
+/// The case with one number of one of its five lists made smaller.
+fn smaller_numbers<C: Clone>(whole: C, list_of: fn(&mut C, usize) -> &mut Vec<u32>) -> impl Iterator<Item = C> {
+    (0..5).flat_map(move |list| {
+        let whole = whole.clone();
+        let length = list_of(&mut whole.clone(), list).len();
+        (0..length).flat_map(move |at| {
+            let whole = whole.clone();
+            numbers(list_of(&mut whole.clone(), list)[at]).map(move |number| {
+                let mut case = whole.clone();
+                list_of(&mut case, list)[at] = number;
+                case
+            })
+        })
+    })
+}
+
 fn smaller_corridor(case: Corridor) -> impl Iterator<Item = Corridor> {
     let cells = case.table.len() / COLUMNS;
     let row = state_length(cells);
@@ -91,20 +107,7 @@ fn smaller_corridor(case: Corridor) -> impl Iterator<Item = Corridor> {
         sheet: without_cells(&whole.sheet, cells, 4, &range),
         periods: whole.periods.clone(),
     });
-    let whole = case;
-    let smaller_numbers = (0..5).flat_map(move |list| {
-        let whole = whole.clone();
-        let length = corridor_list(&mut whole.clone(), list).len();
-        (0..length).flat_map(move |at| {
-            let whole = whole.clone();
-            numbers(corridor_list(&mut whole.clone(), list)[at]).map(move |number| {
-                let mut case = whole.clone();
-                corridor_list(&mut case, list)[at] = number;
-                case
-            })
-        })
-    });
-    fewer_rows.chain(fewer_cells).chain(smaller_numbers)
+    fewer_rows.chain(fewer_cells).chain(smaller_numbers(case, corridor_list))
 }
 
 fn corridor_list(case: &mut Corridor, list: usize) -> &mut Vec<u32> {
@@ -143,20 +146,7 @@ fn smaller_recut(case: Recut) -> impl Iterator<Item = Recut> {
         new_state: without_cells(&whole.new_state, new_cells, 2, &range),
         ..whole.clone()
     });
-    let whole = case;
-    let smaller_numbers = (0..5).flat_map(move |list| {
-        let whole = whole.clone();
-        let length = recut_list(&mut whole.clone(), list).len();
-        (0..length).flat_map(move |at| {
-            let whole = whole.clone();
-            numbers(recut_list(&mut whole.clone(), list)[at]).map(move |number| {
-                let mut case = whole.clone();
-                recut_list(&mut case, list)[at] = number;
-                case
-            })
-        })
-    });
-    fewer_old.chain(fewer_new).chain(smaller_numbers)
+    fewer_old.chain(fewer_new).chain(smaller_numbers(case, recut_list))
 }
 
 fn recut_list(case: &mut Recut, list: usize) -> &mut Vec<u32> {

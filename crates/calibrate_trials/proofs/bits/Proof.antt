@@ -8,9 +8,6 @@ use lib.Ieee.Compare.{nan-differs}
 use Rattle.calibrate_trials.proofs.bits.Statement.{statement}
 use Rattle.calibrate_trials.proofs.bits.Tie as tie
 
-returns : tie.Need-returns
-returns c = search needs
-
 -- what does not differ from itself is no NaN
 not-nan : (x : Float) → ne x x ≡ false → T (not (isNan x))
 unfolding isNan
@@ -21,8 +18,5 @@ not-nan (fin negative m e) h = tt
 float-to-bits-result : tie.Need-float-to-bits-result
 float-to-bits-result c = not-nan (c .before .args .x) (c .if1 .left)
 
-returns-2 : tie.Need-returns-2
-returns-2 c = search needs
-
 pub bits-spec : {M : Type 1} → statement M
-bits-spec = tie.close (tie.spec returns float-to-bits-result returns-2)
+bits-spec = tie.close (tie.spec (λ c. search needs) float-to-bits-result (λ c. search needs))

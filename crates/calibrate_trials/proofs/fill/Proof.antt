@@ -12,49 +12,19 @@ Inv-loop list₀ kind draw early most x₀ i₀ list x i = length list ≡ lengt
 abbrev μ-loop : tie.MeasureT-loop
 μ-loop list₀ kind draw early most x₀ i₀ list x i = length list₀ - i
 
-loop-holds : tie.Need-loop-holds Inv-loop μ-loop
-loop-holds c = search needs
-
-stepped-requires : tie.Need-stepped-requires Inv-loop μ-loop
-stepped-requires c κs = search needs
-
-drawn-requires : tie.Need-drawn-requires Inv-loop μ-loop
-drawn-requires c κs = search needs
-
-mul-list : tie.Need-mul-list Inv-loop μ-loop
-mul-list c = search needs
-
-slice-write-list : tie.Need-slice-write-list Inv-loop μ-loop
-slice-write-list c = search needs
-
-add-i : tie.Need-add-i Inv-loop μ-loop
-add-i c = search needs
-
-loop-less : tie.Need-loop-less Inv-loop μ-loop
-loop-less c = search needs
-
-loop-again : tie.Need-loop-again Inv-loop μ-loop
-loop-again c = search needs
-
-same-length : tie.Need-same-length Inv-loop μ-loop
-same-length c = search needs
-
-returns : tie.Need-returns Inv-loop μ-loop
-returns c = search needs
-
 pub fill-spec : {M : Type 1} → statement M
 fill-spec =
     tie.close
     (tie.spec
     Inv-loop
     μ-loop
-    loop-holds
-    stepped-requires
-    drawn-requires
-    mul-list
-    slice-write-list
-    add-i
-    loop-less
-    loop-again
-    same-length
-    returns)
+    (λ c. search needs)
+    (λ c κs. search needs)
+    (λ c κs. search needs)
+    (λ c. search needs)
+    (λ c. search needs)
+    (λ c. search needs)
+    (λ c. search needs)
+    (λ c. search needs)
+    (λ c. search needs)
+    (λ c. search needs))

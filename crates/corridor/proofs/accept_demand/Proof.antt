@@ -3,12 +3,9 @@ use mathlib.Core.Path.{sym, _∙_}
 use borrow.Author.Tests.{not-false}
 use borrow.Author.Needs.{needs}
 use Rattle.corridor.proofs.Ranges.{row-lengths}
-use Rattle.corridor.proofs.Answers.{lengths-fail, lengths-fit}
+use Rattle.refusals.proofs.Answers.{lengths-fail, lengths-fit}
 use Rattle.corridor.proofs.accept_demand.Statement.{statement}
 use Rattle.corridor.proofs.accept_demand.Tie as tie
-
-row-lengths-fit-requires : tie.Need-row-lengths-fit-requires
-row-lengths-fit-requires c κs = search needs
 
 returns : tie.Need-returns
 returns c = lengths-fail _ (c .before .row-lengths-fit .ensures) (c .if1 .taken)
@@ -23,4 +20,4 @@ returns-2 c = lengths-fit (c .before .before .row-lengths-fit .ensures) (c .befo
 
 pub accept-demand-spec : {M : Type 1} → statement M
 accept-demand-spec =
-    tie.close (tie.spec row-lengths-fit-requires returns demand-numbers-requires returns-2)
+    tie.close (tie.spec (λ c κs. search needs) returns demand-numbers-requires returns-2)

@@ -3,13 +3,10 @@ use mathlib.Core.Path.{sym, _∙_}
 use borrow.Author.Tests.{not-false}
 use borrow.Author.Needs.{needs}
 use Rattle.corridor.proofs.Ranges.{row-lengths}
-use Rattle.corridor.proofs.Answers.{lengths-fail, lengths-fit, refused-stays, accepted-goes-on}
+use Rattle.refusals.proofs.Answers.{lengths-fail, lengths-fit, refused-stays, accepted-goes-on}
 use Rattle.corridor.specs.Acceptance.{stateNumbers, demandNumbers}
 use Rattle.corridor.proofs.accept_row.Statement.{statement}
 use Rattle.corridor.proofs.accept_row.Tie as tie
-
-row-lengths-fit-requires : tie.Need-row-lengths-fit-requires
-row-lengths-fit-requires c κs = search needs
 
 returns : tie.Need-returns
 returns c = lengths-fail _ (c .before .row-lengths-fit .ensures) (c .if1 .taken)
@@ -19,18 +16,12 @@ state-numbers-requires c κs =
     let lists = c .before .before .before .before .before .args in
     row-lengths (lists .table .now) (lists .state .now) (lists .demand .now) (sym (c .before .row-lengths-fit .ensures) ∙ not-false _ (c .if1 .left)) .0
 
-enum-known-found : tie.Need-enum-known-found
-enum-known-found c = search needs
-
 returns-2 : tie.Need-returns-2
 returns-2 c =
     let lists = c .before .before .before .before .before .before .before .before .before .args in
     lengths-fit (c .before .before .before .before .before .row-lengths-fit .ensures) (c .before .before .before .before .if1 .left)
     (refused-stays (stateNumbers (lists .table .now) (lists .state .now)) (demandNumbers (lists .table .now) (lists .state .now) (lists .demand .now))
     (sym (c .before .found .given .1) ∙ c .before .before .before .state-numbers .ensures))
-
-enum-told : tie.Need-enum-told
-enum-told c = search needs
 
 demand-numbers-requires : tie.Need-demand-numbers-requires
 demand-numbers-requires c κs =
@@ -48,11 +39,11 @@ pub accept-row-spec : {M : Type 1} → statement M
 accept-row-spec =
     tie.close
     (tie.spec
-    row-lengths-fit-requires
+    (λ c κs. search needs)
     returns
     state-numbers-requires
-    enum-known-found
+    (λ c. search needs)
     returns-2
-    enum-told
+    (λ c. search needs)
     demand-numbers-requires
     returns-3)

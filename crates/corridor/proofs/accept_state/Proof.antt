@@ -3,12 +3,9 @@ use mathlib.Core.Path.{sym, _∙_}
 use borrow.Author.Tests.{not-false}
 use borrow.Author.Needs.{needs}
 use Rattle.corridor.proofs.Ranges.{state-length}
-use Rattle.corridor.proofs.Answers.{lengths-fail, lengths-fit}
+use Rattle.refusals.proofs.Answers.{lengths-fail, lengths-fit}
 use Rattle.corridor.proofs.accept_state.Statement.{statement}
 use Rattle.corridor.proofs.accept_state.Tie as tie
-
-state-lengths-fit-requires : tie.Need-state-lengths-fit-requires
-state-lengths-fit-requires c κs = search needs
 
 returns : tie.Need-returns
 returns c = lengths-fail _ (c .before .state-lengths-fit .ensures) (c .if1 .taken)
@@ -24,4 +21,4 @@ returns-2 c = lengths-fit (c .before .before .state-lengths-fit .ensures) (c .be
 
 pub accept-state-spec : {M : Type 1} → statement M
 accept-state-spec =
-    tie.close (tie.spec state-lengths-fit-requires returns state-numbers-requires returns-2)
+    tie.close (tie.spec (λ c κs. search needs) returns state-numbers-requires returns-2)

@@ -1,21 +1,15 @@
 -- `corridor::accept_table` meets its contract. Assumes nothing.
 use borrow.Author.Needs.{needs}
-use Rattle.corridor.proofs.Answers.{lengths-fail, lengths-fit}
+use Rattle.refusals.proofs.Answers.{lengths-fail, lengths-fit}
 use Rattle.corridor.proofs.accept_table.Statement.{statement}
 use Rattle.corridor.proofs.accept_table.Tie as tie
 
-table-length-fits-requires : tie.Need-table-length-fits-requires
-table-length-fits-requires c κs = search needs
-
 returns : tie.Need-returns
 returns c = lengths-fail _ (c .before .table-length-fits .ensures) (c .if1 .taken)
-
-table-numbers-requires : tie.Need-table-numbers-requires
-table-numbers-requires c κs = search needs
 
 returns-2 : tie.Need-returns-2
 returns-2 c = lengths-fit (c .before .before .table-length-fits .ensures) (c .before .if1 .left) (c .table-numbers .ensures)
 
 pub accept-table-spec : {M : Type 1} → statement M
 accept-table-spec =
-    tie.close (tie.spec table-length-fits-requires returns table-numbers-requires returns-2)
+    tie.close (tie.spec (λ c κs. search needs) returns (λ c κs. search needs) returns-2)

@@ -2,21 +2,12 @@
 use mathlib.Core.Path.{ap₂}
 use mathlib.Core.Bool.{_&&_}
 use borrow.Author.Needs.{needs}
-use Rattle.corridor.proofs.Answers.{lengths-fail, lengths-fit}
+use Rattle.refusals.proofs.Answers.{lengths-fail, lengths-fit}
 use Rattle.corridor.proofs.accept_tables.Statement.{statement}
 use Rattle.corridor.proofs.accept_tables.Tie as tie
 
-table-length-fits-requires : tie.Need-table-length-fits-requires
-table-length-fits-requires c κs = search needs
-
-table-length-fits-requires-2 : tie.Need-table-length-fits-requires-2
-table-length-fits-requires-2 c κs = search needs
-
 returns : tie.Need-returns
 returns c = lengths-fail _ (ap₂ (λ a b. a && b) (c .before .before .table-length-fits .ensures) (c .before .table-length-fits2 .ensures)) (c .if1 .taken)
-
-both-tables-requires : tie.Need-both-tables-requires
-both-tables-requires c κs = search needs
 
 returns-2 : tie.Need-returns-2
 returns-2 c = lengths-fit (ap₂ (λ a b. a && b) (c .before .before .before .table-length-fits .ensures) (c .before .before .table-length-fits2 .ensures)) (c .before .if1 .left) (c .both-tables .ensures)
@@ -25,8 +16,8 @@ pub accept-tables-spec : {M : Type 1} → statement M
 accept-tables-spec =
     tie.close
     (tie.spec
-    table-length-fits-requires
-    table-length-fits-requires-2
+    (λ c κs. search needs)
+    (λ c κs. search needs)
     returns
-    both-tables-requires
+    (λ c κs. search needs)
     returns-2)

@@ -2,10 +2,10 @@
 use mathlib.Core.List.{[], _∷_}
 use mathlib.Core.Path.{_≡_, sym, _∙_}
 use native.Mathlib.Omega.{arith}
-use Rattle.corridor.specs.declared.Answer.the-variants.{Accepted}
-use Rattle.corridor.specs.Checks.{answer}
+use Rattle.refusals.specs.declared.Answer.the-variants.{Accepted}
+use Rattle.refusals.specs.Checks.{answer}
 use Rattle.corridor.specs.Acceptance.{rowsInRange, roomsShared, rampsOnce}
-use Rattle.corridor.proofs.Answers.{one-stops, one-passes}
+use Rattle.refusals.proofs.Answers.{one-stops, one-passes}
 use borrow.Author.Needs.{needs}
 use Rattle.corridor.proofs.both_tables.Statement.{statement}
 use Rattle.corridor.proofs.both_tables.Tie as tie
@@ -29,34 +29,19 @@ passed-5 c = sym (c .enum-told5 .given .1) ∙ c .before .before .one-number5 .e
 one-number-requires : tie.Need-one-number-requires
 one-number-requires c κs = (λ e. absurd (omega arith), omega arith, omega arith)
 
-enum-known-rows : tie.Need-enum-known-rows
-enum-known-rows c = search needs
-
 returns : tie.Need-returns
 returns c = one-stops _ _ (sym (c .before .rows .given .1) ∙ c .before .before .before .one-number .ensures)
 
-enum-told : tie.Need-enum-told
-enum-told c = search needs
-
 one-number-requires-2 : tie.Need-one-number-requires-2
 one-number-requires-2 c κs = (λ e. absurd (omega arith), omega arith, omega arith)
-
-enum-known-rows-too : tie.Need-enum-known-rows-too
-enum-known-rows-too c = search needs
 
 returns-2 : tie.Need-returns-2
 returns-2 c =
     one-passes _ (passed-1 (c .before .before .before .before))
     (one-stops _ _ (sym (c .before .rows-too .given .1) ∙ c .before .before .before .one-number2 .ensures))
 
-enum-told-2 : tie.Need-enum-told-2
-enum-told-2 c = search needs
-
 one-number-requires-3 : tie.Need-one-number-requires-3
 one-number-requires-3 c κs = (λ e. absurd (omega arith), omega arith, omega arith)
-
-enum-known-rooms : tie.Need-enum-known-rooms
-enum-known-rooms c = search needs
 
 returns-3 : tie.Need-returns-3
 returns-3 c =
@@ -64,14 +49,8 @@ returns-3 c =
     (one-passes _ (passed-2 (c .before .before .before .before))
     (one-stops _ _ (sym (c .before .rooms .given .1) ∙ c .before .before .before .one-number3 .ensures)))
 
-enum-told-3 : tie.Need-enum-told-3
-enum-told-3 c = search needs
-
 one-number-requires-4 : tie.Need-one-number-requires-4
 one-number-requires-4 c κs = (λ e. absurd (omega arith), omega arith, omega arith)
-
-enum-known-rooms-too : tie.Need-enum-known-rooms-too
-enum-known-rooms-too c = search needs
 
 returns-4 : tie.Need-returns-4
 returns-4 c =
@@ -80,14 +59,8 @@ returns-4 c =
     (one-passes _ (passed-3 (c .before .before .before .before))
     (one-stops _ _ (sym (c .before .rooms-too .given .1) ∙ c .before .before .before .one-number4 .ensures))))
 
-enum-told-4 : tie.Need-enum-told-4
-enum-told-4 c = search needs
-
 one-number-requires-5 : tie.Need-one-number-requires-5
 one-number-requires-5 c κs = (λ _. passed-1 (c .before .before .before .before .before .before .before .before .before), omega arith, omega arith)
-
-enum-known-ramps : tie.Need-enum-known-ramps
-enum-known-ramps c = search needs
 
 returns-5 : tie.Need-returns-5
 returns-5 c =
@@ -96,9 +69,6 @@ returns-5 c =
     (one-passes _ (passed-3 (c .before .before .before .before .before .before .before))
     (one-passes _ (passed-4 (c .before .before .before .before))
     (one-stops _ _ (sym (c .before .ramps .given .1) ∙ c .before .before .before .one-number5 .ensures)))))
-
-enum-told-5 : tie.Need-enum-told-5
-enum-told-5 c = search needs
 
 one-number-requires-6 : tie.Need-one-number-requires-6
 one-number-requires-6 c κs = (λ _. passed-2 (c .before .before .before .before .before .before .before .before .before), omega arith, omega arith)
@@ -117,24 +87,24 @@ both-tables-spec =
     tie.close
     (tie.spec
     one-number-requires
-    enum-known-rows
+    (λ c. search needs)
     returns
-    enum-told
+    (λ c. search needs)
     one-number-requires-2
-    enum-known-rows-too
+    (λ c. search needs)
     returns-2
-    enum-told-2
+    (λ c. search needs)
     one-number-requires-3
-    enum-known-rooms
+    (λ c. search needs)
     returns-3
-    enum-told-3
+    (λ c. search needs)
     one-number-requires-4
-    enum-known-rooms-too
+    (λ c. search needs)
     returns-4
-    enum-told-4
+    (λ c. search needs)
     one-number-requires-5
-    enum-known-ramps
+    (λ c. search needs)
     returns-5
-    enum-told-5
+    (λ c. search needs)
     one-number-requires-6
     returns-6)

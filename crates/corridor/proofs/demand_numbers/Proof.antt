@@ -1,28 +1,16 @@
 -- `corridor::demand_numbers` meets its contract. Assumes nothing.
 use mathlib.Core.Path.{refl, sym, _∙_}
-use Rattle.corridor.proofs.Answers.{stops, passes}
+use Rattle.refusals.proofs.Answers.{stops, passes}
 use Rattle.corridor.proofs.Accepted.{every-accepted}
 use borrow.Author.Needs.{needs}
 use Rattle.corridor.proofs.demand_numbers.Statement.{statement}
 use Rattle.corridor.proofs.demand_numbers.Tie as tie
 
-row-passes-requires : tie.Need-row-passes-requires
-row-passes-requires c κs = search needs
-
 returns : tie.Need-returns
 returns c = every-accepted _ _ refl refl (sym (c .before .row-passes .ensures) ∙ c .if1 .taken)
 
-cells-requires : tie.Need-cells-requires
-cells-requires c κs = search needs
-
-demand-in-range-requires : tie.Need-demand-in-range-requires
-demand-in-range-requires c κs = search needs
-
 returns-2 : tie.Need-returns-2
 returns-2 c = stops _ _ (c .before .demand-in-range .ensures) (search needs)
-
-queues-hold-requires : tie.Need-queues-hold-requires
-queues-hold-requires c κs = search needs
 
 returns-3 : tie.Need-returns-3
 returns-3 c = passes _ (c .before .before .before .demand-in-range .ensures) (search needs) (stops _ _ (c .before .queues-hold .ensures) (search needs))
@@ -34,11 +22,11 @@ pub demand-numbers-spec : {M : Type 1} → statement M
 demand-numbers-spec =
     tie.close
     (tie.spec
-    row-passes-requires
+    (λ c κs. search needs)
     returns
-    cells-requires
-    demand-in-range-requires
+    (λ c κs. search needs)
+    (λ c κs. search needs)
     returns-2
-    queues-hold-requires
+    (λ c κs. search needs)
     returns-3
     returns-4)

@@ -2,10 +2,10 @@
 use mathlib.Core.List.{[], _∷_}
 use mathlib.Core.Path.{_≡_, sym, _∙_}
 use native.Mathlib.Omega.{arith}
-use Rattle.corridor.specs.declared.Answer.the-variants.{Accepted}
-use Rattle.corridor.specs.Checks.{answer}
+use Rattle.refusals.specs.declared.Answer.the-variants.{Accepted}
+use Rattle.refusals.specs.Checks.{answer}
 use Rattle.corridor.specs.Acceptance.{rowsInRange, roomsShared}
-use Rattle.corridor.proofs.Answers.{one-stops, one-passes}
+use Rattle.refusals.proofs.Answers.{one-stops, one-passes}
 use borrow.Author.Needs.{needs}
 use Rattle.corridor.proofs.table_numbers.Statement.{statement}
 use Rattle.corridor.proofs.table_numbers.Tie as tie
@@ -20,28 +20,16 @@ passed-2 c = sym (c .enum-told2 .given .1) ∙ c .before .before .one-number2 .e
 one-number-requires : tie.Need-one-number-requires
 one-number-requires c κs = (λ e. absurd (omega arith), omega arith, omega arith)
 
-enum-known-rows : tie.Need-enum-known-rows
-enum-known-rows c = search needs
-
 returns : tie.Need-returns
 returns c = one-stops _ _ (sym (c .before .rows .given .1) ∙ c .before .before .before .one-number .ensures)
 
-enum-told : tie.Need-enum-told
-enum-told c = search needs
-
 one-number-requires-2 : tie.Need-one-number-requires-2
 one-number-requires-2 c κs = (λ e. absurd (omega arith), omega arith, omega arith)
-
-enum-known-rooms : tie.Need-enum-known-rooms
-enum-known-rooms c = search needs
 
 returns-2 : tie.Need-returns-2
 returns-2 c =
     one-passes _ (passed-1 (c .before .before .before .before))
     (one-stops _ _ (sym (c .before .rooms .given .1) ∙ c .before .before .before .one-number2 .ensures))
-
-enum-told-2 : tie.Need-enum-told-2
-enum-told-2 c = search needs
 
 one-number-requires-3 : tie.Need-one-number-requires-3
 one-number-requires-3 c κs = (λ _. passed-1 (c .before .before .before), omega arith, omega arith)
@@ -57,12 +45,12 @@ table-numbers-spec =
     tie.close
     (tie.spec
     one-number-requires
-    enum-known-rows
+    (λ c. search needs)
     returns
-    enum-told
+    (λ c. search needs)
     one-number-requires-2
-    enum-known-rooms
+    (λ c. search needs)
     returns-2
-    enum-told-2
+    (λ c. search needs)
     one-number-requires-3
     returns-3)

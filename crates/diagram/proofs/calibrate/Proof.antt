@@ -4,27 +4,6 @@ use Rattle.diagram.proofs.Answers.{not-fitted, not-made, calibrated}
 use Rattle.diagram.proofs.calibrate.Statement.{statement}
 use Rattle.diagram.proofs.calibrate.Tie as tie
 
-fit-requires : tie.Need-fit-requires
-fit-requires c κs = search needs
-
-enum-known-fitted : tie.Need-enum-known-fitted
-enum-known-fitted c = search needs
-
-enum-known-fitted-2 : tie.Need-enum-known-fitted-2
-enum-known-fitted-2 c = search needs
-
-row-values-requires : tie.Need-row-values-requires
-row-values-requires c κs = search needs
-
-round-values-requires : tie.Need-round-values-requires
-round-values-requires c κs = search needs
-
-enum-known-made : tie.Need-enum-known-made
-enum-known-made c = search needs
-
-enum-known-made-2 : tie.Need-enum-known-made-2
-enum-known-made-2 c = search needs
-
 returns : tie.Need-returns
 returns c = let lists = c .before .before .before .before .before .before .args in
     not-fitted (lists .settings) (lists .flow .now) (lists .occupancy .now) (c .before .before .before .fit .ensures) (c .before .fitted .given .1)
@@ -41,13 +20,13 @@ pub calibrate-spec : {M : Type 1} → statement M
 calibrate-spec =
     tie.close
     (tie.spec
-    fit-requires
-    enum-known-fitted
-    enum-known-fitted-2
-    row-values-requires
-    round-values-requires
-    enum-known-made
-    enum-known-made-2
+    (λ c κs. search needs)
+    (λ c. search needs)
+    (λ c. search needs)
+    (λ c κs. search needs)
+    (λ c κs. search needs)
+    (λ c. search needs)
+    (λ c. search needs)
     returns
     returns-2
     returns-3)

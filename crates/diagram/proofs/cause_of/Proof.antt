@@ -7,22 +7,13 @@ use Rattle.diagram.proofs.Tests.{fails, holds}
 use Rattle.diagram.proofs.cause_of.Statement.{statement}
 use Rattle.diagram.proofs.cause_of.Tie as tie
 
-finite-requires : tie.Need-finite-requires
-finite-requires c κs = search needs
-
 returns : tie.Need-returns
 unfolding sampleOf
 returns c = λ g lanes. rw (fails (c .before .finite .ensures) (c .if1 .taken))
 
-flow-in-range-requires : tie.Need-flow-in-range-requires
-flow-in-range-requires c κs = search needs
-
 returns-2 : tie.Need-returns-2
 unfolding sampleOf
 returns-2 c = λ g lanes. rw (holds (c .before .before .before .finite .ensures) (c .before .before .if1 .left), fails (c .before .flow-in-range .ensures) (c .if2 .taken))
-
-finite-requires-2 : tie.Need-finite-requires-2
-finite-requires-2 c κs = search needs
 
 returns-3 : tie.Need-returns-3
 unfolding sampleOf
@@ -38,10 +29,10 @@ pub cause-of-spec : {M : Type 1} → statement M
 cause-of-spec =
     tie.close
     (tie.spec
-    finite-requires
+    (λ c κs. search needs)
     returns
-    flow-in-range-requires
+    (λ c κs. search needs)
     returns-2
-    finite-requires-2
+    (λ c κs. search needs)
     returns-3
     returns-4)

@@ -2,16 +2,13 @@
 use mathlib.Core.Path.{refl, ap, _∙_}
 use native.Mathlib.Omega.{arith}
 use borrow.Author.Needs.{needs}
-use Rattle.corridor.proofs.Answers.{stops, passes, lengths-fail}
-use Rattle.corridor.proofs.Answers as answers
+use Rattle.refusals.proofs.Answers.{stops, passes, lengths-fail}
+use Rattle.refusals.proofs.Answers as answers
 use Rattle.diagram.proofs.Answers.{lengths-fit}
 use Rattle.diagram.proofs.Tests.{holds}
 use Rattle.diagram.specs.Calibration.{fittedDiagram, fitAs}
 use Rattle.diagram.proofs.fit.Statement.{statement}
 use Rattle.diagram.proofs.fit.Tie as tie
-
-lengths-fit-requires : tie.Need-lengths-fit-requires
-lengths-fit-requires c κs = search needs
 
 returns : tie.Need-returns
 returns c = let lists = c .before .before .before .before .args in
@@ -45,7 +42,7 @@ pub fit-spec : {M : Type 1} → statement M
 fit-spec =
     tie.close
     (tie.spec
-    lengths-fit-requires
+    (λ c κs. search needs)
     returns
     samples-usable-requires
     returns-2

@@ -5,12 +5,6 @@ use Rattle.diagram.proofs.Fitting.{no-diagram, the-diagram}
 use Rattle.diagram.proofs.fit_samples.Statement.{statement}
 use Rattle.diagram.proofs.fit_samples.Tie as tie
 
-speed-sums-requires : tie.Need-speed-sums-requires
-speed-sums-requires c κs = search needs
-
-wave-sums-requires : tie.Need-wave-sums-requires
-wave-sums-requires c κs = search needs
-
 returns : tie.Need-returns
 unfolding ofBits ofInt
 returns c = let waves = c .before .before .before .before in
@@ -24,4 +18,5 @@ returns-2 c = let waves = c .before .before .before .before in
     the-diagram _ _ _ _ _ (speeds .speed-sums .ensures) (speeds .before .before .before .pre .1 .1) (waves .wave-sums .ensures) (c .if1 .left)
 
 pub fit-samples-spec : {M : Type 1} → statement M
-fit-samples-spec = tie.close (tie.spec speed-sums-requires wave-sums-requires returns returns-2)
+fit-samples-spec =
+    tie.close (tie.spec (λ c κs. search needs) (λ c κs. search needs) returns returns-2)

@@ -2,8 +2,8 @@
 use mathlib.Core.List.{[], _∷_}
 use mathlib.Core.Path.{ap, _∙_}
 use borrow.Author.Needs.{needs}
-use Rattle.corridor.specs.Checks.{answer}
-use Rattle.corridor.specs.declared.Refusal.the-variants.{Sample}
+use Rattle.refusals.specs.Checks.{answer}
+use Rattle.refusals.specs.declared.Refusal.the-variants.{Sample}
 use Rattle.diagram.proofs.Answers.{test-fails, test-passes}
 use Rattle.diagram.proofs.Tests.{fails, holds}
 use Rattle.diagram.specs.Calibration.{valuesFit, rowAs}
@@ -11,19 +11,10 @@ use Rattle.diagram.specs.RowNumbers.{rowValues}
 use Rattle.diagram.proofs.make_row.Statement.{statement}
 use Rattle.diagram.proofs.make_row.Tie as tie
 
-cell-settings-fit-requires : tie.Need-cell-settings-fit-requires
-cell-settings-fit-requires c κs = search needs
-
 returns : tie.Need-returns
 returns c = let given = c .before .before .args in
     ap (λ a. rowAs a (rowValues (given .diagram) (given .period) (given .cell)))
     (test-fails Sample _ (fails (c .before .cell-settings-fit .ensures) (c .if1 .taken)))
-
-row-values-requires : tie.Need-row-values-requires
-row-values-requires c κs = search needs
-
-round-values-requires : tie.Need-round-values-requires
-round-values-requires c κs = search needs
 
 returns-2 : tie.Need-returns-2
 returns-2 c = let given = c .before .before .before .before .args in
@@ -36,8 +27,8 @@ pub make-row-spec : {M : Type 1} → statement M
 make-row-spec =
     tie.close
     (tie.spec
-    cell-settings-fit-requires
+    (λ c κs. search needs)
     returns
-    row-values-requires
-    round-values-requires
+    (λ c κs. search needs)
+    (λ c κs. search needs)
     returns-2)

@@ -4,12 +4,9 @@ use lib.Ieee.{ofBits, ofInt}
 use Rattle.diagram.proofs.occupancy_in_range.Statement.{statement}
 use Rattle.diagram.proofs.occupancy_in_range.Tie as tie
 
-between-requires : tie.Need-between-requires
-between-requires c κs = search needs
-
 returns : tie.Need-returns
 unfolding ofBits ofInt
 returns c = c .between .ensures
 
 pub occupancy-in-range-spec : {M : Type 1} → statement M
-occupancy-in-range-spec = tie.close (tie.spec between-requires returns)
+occupancy-in-range-spec = tie.close (tie.spec (λ c κs. search needs) returns)

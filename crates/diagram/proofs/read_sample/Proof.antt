@@ -9,26 +9,11 @@ use Rattle.diagram.proofs.Tests.{fails, holds, flow-is-finite, occupanc
 use Rattle.diagram.proofs.read_sample.Statement.{statement}
 use Rattle.diagram.proofs.read_sample.Tie as tie
 
-flow-in-range-requires : tie.Need-flow-in-range-requires
-flow-in-range-requires c κs = search needs
-
-occupancy-in-range-requires : tie.Need-occupancy-in-range-requires
-occupancy-in-range-requires c κs = search needs
-
 cause-of-requires : tie.Need-cause-of-requires
 cause-of-requires c κs = fails (ap₂ (λ flow occupancy. flow && occupancy) (c .before .before .flow-in-range .ensures) (c .before .occupancy-in-range .ensures)) (c .if1 .taken)
 
 returns : tie.Need-returns
 returns c = sym (c .cause-of .ensures _ _)
-
-unsigned-requires : tie.Need-unsigned-requires
-unsigned-requires c κs = search needs
-
-int-to-float-density : tie.Need-int-to-float-density
-int-to-float-density c = search needs
-
-unsigned-requires-2 : tie.Need-unsigned-requires-2
-unsigned-requires-2 c κs = search needs
 
 returns-2 : tie.Need-returns-2
 unfolding sampleOf
@@ -41,11 +26,11 @@ pub read-sample-spec : {M : Type 1} → statement M
 read-sample-spec =
     tie.close
     (tie.spec
-    flow-in-range-requires
-    occupancy-in-range-requires
+    (λ c κs. search needs)
+    (λ c κs. search needs)
     cause-of-requires
     returns
-    unsigned-requires
-    int-to-float-density
-    unsigned-requires-2
+    (λ c κs. search needs)
+    (λ c. search needs)
+    (λ c κs. search needs)
     returns-2)

@@ -1,19 +1,13 @@
 -- `diagram::round_values` meets its contract. Assumes nothing.
 use mathlib.Core.Path.{refl, ap, _∙_}
 use borrow.Author.Needs.{needs}
-use Rattle.corridor.specs.declared.Answer.the-variants.{Accepted}
-use Rattle.corridor.proofs.Answers.{stops, passes}
+use Rattle.refusals.specs.declared.Answer.the-variants.{Accepted}
+use Rattle.refusals.proofs.Answers.{stops, passes}
 use Rattle.diagram.proofs.Answers.{values-fit}
 use Rattle.diagram.specs.Calibration.{valuesFit, rowAs}
 use Rattle.diagram.specs.declared.RowAnswer.the-variants.{Made}
 use Rattle.diagram.proofs.round_values.Statement.{statement}
 use Rattle.diagram.proofs.round_values.Tie as tie
-
-values-fit-requires : tie.Need-values-fit-requires
-values-fit-requires c κs = search needs
-
-add-t4 : tie.Need-add-t4
-add-t4 c = search needs
 
 returns : tie.Need-returns
 returns c = let values = c .before .before .args .values in
@@ -29,4 +23,4 @@ returns-2 c = let values = c .before .before .before .args .values in
 
 pub round-values-spec : {M : Type 1} → statement M
 round-values-spec =
-    tie.close (tie.spec values-fit-requires add-t4 returns row-numbers-requires returns-2)
+    tie.close (tie.spec (λ c κs. search needs) (λ c. search needs) returns row-numbers-requires returns-2)

@@ -10,15 +10,9 @@ use Rattle.digits.specs.Lines.{digitsOf}
 use Rattle.digits.proofs.write_decimal.Statement.{statement}
 use Rattle.digits.proofs.write_decimal.Tie as tie
 
-fits-requires : tie.Need-fits-requires
-fits-requires c κs = search needs
-
 put-number-requires : tie.Need-put-number-requires
 put-number-requires c κs = let a = c .before .before .before .before .args in
     leb-true (a .at + length (digitsOf (a .number))) (length (a .buffer .now)) (sym (c .before .before .fits2 .ensures) ∙ c .before .if1 .taken)
-
-same-length : tie.Need-same-length
-same-length c = search needs
 
 returns : tie.Need-returns
 unfolding written afterWriting
@@ -31,4 +25,4 @@ returns-2 c = rw (sym (c .before .fits2 .ensures) ∙ c .if1 .left) (refl, refl)
 
 pub write-decimal-spec : {M : Type 1} → statement M
 write-decimal-spec =
-    tie.close (tie.spec fits-requires put-number-requires same-length returns returns-2)
+    tie.close (tie.spec (λ c κs. search needs) put-number-requires (λ c. search needs) returns returns-2)

@@ -10,15 +10,9 @@ use Rattle.digits.specs.Lines.{lineText}
 use Rattle.digits.proofs.write_record.Statement.{statement}
 use Rattle.digits.proofs.write_record.Tie as tie
 
-line-fits-requires : tie.Need-line-fits-requires
-line-fits-requires c κs = search needs
-
 put-line-requires : tie.Need-put-line-requires
 put-line-requires c κs = let a = c .before .before .before .before .before .args in
     leb-true (a .at + length (lineText (a .numbers .now))) (length (a .buffer .now)) (sym (c .before .before .line-fits .ensures) ∙ c .before .if1 .taken)
-
-same-length : tie.Need-same-length
-same-length c = search needs
 
 returns : tie.Need-returns
 unfolding written afterWriting
@@ -31,4 +25,4 @@ returns-2 c = rw (sym (c .before .line-fits .ensures) ∙ c .if1 .left) (refl, r
 
 pub write-record-spec : {M : Type 1} → statement M
 write-record-spec =
-    tie.close (tie.spec line-fits-requires put-line-requires same-length returns returns-2)
+    tie.close (tie.spec (λ c κs. search needs) put-line-requires (λ c. search needs) returns returns-2)

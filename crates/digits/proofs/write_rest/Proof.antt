@@ -8,21 +8,19 @@ use Rattle.digits.proofs.write_rest.Tie as tie
 returns : tie.Need-returns
 returns c = no-rest _ _ _ (omega arith)
 
-sub-if2 : tie.Need-sub-if2
-sub-if2 c = search needs
-
 returns-2 : tie.Need-returns-2
 returns-2 c = no-rest _ _ _ (omega arith)
-
-put-rest-requires : tie.Need-put-rest-requires
-put-rest-requires c κs = search needs
-
-same-length : tie.Need-same-length
-same-length c = search needs
 
 returns-3 : tie.Need-returns-3
 returns-3 c = rest-put _ _ _ (omega arith) (c .before .before .put-rest .ensures .0) (c .before .before .put-rest .ensures .1 .0) (c .before .before .put-rest .ensures .1 .1)
 
 pub write-rest-spec : {M : Type 1} → statement M
 write-rest-spec =
-    tie.close (tie.spec returns sub-if2 returns-2 put-rest-requires same-length returns-3)
+    tie.close
+    (tie.spec
+    returns
+    (λ c. search needs)
+    returns-2
+    (λ c κs. search needs)
+    (λ c. search needs)
+    returns-3)

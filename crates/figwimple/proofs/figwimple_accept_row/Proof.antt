@@ -7,9 +7,6 @@ use Rattle.figwimple.proofs.Called.{fits-as}
 use Rattle.figwimple.proofs.figwimple_accept_row.Statement.{statement}
 use Rattle.figwimple.proofs.figwimple_accept_row.Tie as tie
 
-accept-row-requires : tie.Need-accept-row-requires
-accept-row-requires c κs = search needs
-
 word-requires : tie.Need-word-requires
 word-requires c κs =
     let lists = c .before .before .before .before .args in
@@ -19,4 +16,4 @@ returns : tie.Need-returns
 returns c = c .word .ensures ∙ ap wordOf (c .before .accept-row .ensures)
 
 pub figwimple-accept-row-spec : {M : Type 1} → statement M
-figwimple-accept-row-spec = tie.close (tie.spec accept-row-requires word-requires returns)
+figwimple-accept-row-spec = tie.close (tie.spec (λ c κs. search needs) word-requires returns)

@@ -7,9 +7,6 @@ use Rattle.figwimple.proofs.Called.{fits-as}
 use Rattle.figwimple.proofs.figwimple_accept_state.Statement.{statement}
 use Rattle.figwimple.proofs.figwimple_accept_state.Tie as tie
 
-accept-state-requires : tie.Need-accept-state-requires
-accept-state-requires c κs = search needs
-
 word-requires : tie.Need-word-requires
 word-requires c κs =
     let lists = c .before .before .before .args in
@@ -19,4 +16,4 @@ returns : tie.Need-returns
 returns c = c .word .ensures ∙ ap wordOf (c .before .accept-state .ensures)
 
 pub figwimple-accept-state-spec : {M : Type 1} → statement M
-figwimple-accept-state-spec = tie.close (tie.spec accept-state-requires word-requires returns)
+figwimple-accept-state-spec = tie.close (tie.spec (λ c κs. search needs) word-requires returns)

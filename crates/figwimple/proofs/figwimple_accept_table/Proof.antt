@@ -7,9 +7,6 @@ use Rattle.figwimple.proofs.Called.{fits-as}
 use Rattle.figwimple.proofs.figwimple_accept_table.Statement.{statement}
 use Rattle.figwimple.proofs.figwimple_accept_table.Tie as tie
 
-accept-table-requires : tie.Need-accept-table-requires
-accept-table-requires c κs = search needs
-
 word-requires : tie.Need-word-requires
 word-requires c κs =
     let lists = c .before .before .args in
@@ -19,4 +16,4 @@ returns : tie.Need-returns
 returns c = c .word .ensures ∙ ap wordOf (c .before .accept-table .ensures)
 
 pub figwimple-accept-table-spec : {M : Type 1} → statement M
-figwimple-accept-table-spec = tie.close (tie.spec accept-table-requires word-requires returns)
+figwimple-accept-table-spec = tie.close (tie.spec (λ c κs. search needs) word-requires returns)

@@ -5,23 +5,14 @@ use Rattle.figwimple.proofs.Called.{fits-as, period-called}
 use Rattle.figwimple.proofs.figwimple_period.Statement.{statement}
 use Rattle.figwimple.proofs.figwimple_period.Tie as tie
 
-period-requires : tie.Need-period-requires
-period-requires c κs = search needs
-
 word-requires : tie.Need-word-requires
 word-requires c κs =
     let lists = c .before .before .before .before .before .before .before .before .before .before .before .args in
     fits-as (c .before .before .before .before .period .ensures .answered) (period-placed (lists .table .now) (lists .state .now) (lists .demand .now) (lists .sheet .now))
-
-same-length : tie.Need-same-length
-same-length c = search needs
-
-same-length-2 : tie.Need-same-length-2
-same-length-2 c = search needs
 
 returns : tie.Need-returns
 returns c = period-called (c .before .before .before .before .before .period .ensures) (c .word .ensures)
 
 pub figwimple-period-spec : {M : Type 1} → statement M
 figwimple-period-spec =
-    tie.close (tie.spec period-requires word-requires same-length same-length-2 returns)
+    tie.close (tie.spec (λ c κs. search needs) word-requires (λ c. search needs) (λ c. search needs) returns)

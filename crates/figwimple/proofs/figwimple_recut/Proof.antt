@@ -5,19 +5,14 @@ use Rattle.figwimple.proofs.Called.{fits-as, recut-called}
 use Rattle.figwimple.proofs.figwimple_recut.Statement.{statement}
 use Rattle.figwimple.proofs.figwimple_recut.Tie as tie
 
-recut-requires : tie.Need-recut-requires
-recut-requires c κs = search needs
-
 word-requires : tie.Need-word-requires
 word-requires c κs =
     let lists = c .before .before .before .before .before .before .before .before .before .args in
     fits-as (c .before .before .recut .ensures .answered) (recut-placed (lists .old .now) (lists .state .now) (lists .pieces .now) (lists .new .now) (lists .list .now))
 
-same-length : tie.Need-same-length
-same-length c = search needs
-
 returns : tie.Need-returns
 returns c = recut-called (c .before .before .before .recut .ensures) (c .word .ensures)
 
 pub figwimple-recut-spec : {M : Type 1} → statement M
-figwimple-recut-spec = tie.close (tie.spec recut-requires word-requires same-length returns)
+figwimple-recut-spec =
+    tie.close (tie.spec (λ c κs. search needs) word-requires (λ c. search needs) returns)

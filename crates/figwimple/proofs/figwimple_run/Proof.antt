@@ -6,38 +6,20 @@ use Rattle.figwimple.proofs.Called.{fits-as, periods-refused, run-calle
 use Rattle.figwimple.proofs.figwimple_run.Statement.{statement}
 use Rattle.figwimple.proofs.figwimple_run.Tie as tie
 
-word-requires : tie.Need-word-requires
-word-requires c κs = search needs
-
 returns : tie.Need-returns
 returns c =
     let lists = c .before .before .before .before .before .before .before .args in
     periods-refused (lists .table .now) (lists .state .now) (lists .demand .now) (lists .sheet .now) (lists .periods .now) (c .before .if1 .taken) (c .word .ensures)
-
-run-requires : tie.Need-run-requires
-run-requires c κs = search needs
 
 cast-periods : tie.Need-cast-periods
 cast-periods c =
     let lists = c .before .before .before .before .before .before .before .before .before .before .before .before .before .before .args in
     omega (arith, c .before .before .before .before .before .run .ensures .counted, few-periods (lists .table .now) (lists .state .now) (lists .demand .now) (lists .sheet .now))
 
-slice-write-periods : tie.Need-slice-write-periods
-slice-write-periods c = search needs
-
 word-requires-2 : tie.Need-word-requires-2
 word-requires-2 c κs =
     let lists = c .before .before .before .before .before .before .before .before .before .before .before .before .before .before .args in
     fits-as (c .before .before .before .before .before .run .ensures .answered) (run-placed (lists .table .now) (lists .state .now) (lists .demand .now) (lists .sheet .now))
-
-same-length : tie.Need-same-length
-same-length c = search needs
-
-same-length-2 : tie.Need-same-length-2
-same-length-2 c = search needs
-
-same-length-3 : tie.Need-same-length-3
-same-length-3 c = search needs
 
 returns-2 : tie.Need-returns-2
 returns-2 c =
@@ -48,13 +30,13 @@ pub figwimple-run-spec : {M : Type 1} → statement M
 figwimple-run-spec =
     tie.close
     (tie.spec
-    word-requires
+    (λ c κs. search needs)
     returns
-    run-requires
+    (λ c κs. search needs)
     cast-periods
-    slice-write-periods
+    (λ c. search needs)
     word-requires-2
-    same-length
-    same-length-2
-    same-length-3
+    (λ c. search needs)
+    (λ c. search needs)
+    (λ c. search needs)
     returns-2)

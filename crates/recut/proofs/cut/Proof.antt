@@ -4,7 +4,7 @@ use mathlib.Core.Path.{_≡_, refl}
 use native.Mathlib.Omega.{arith}
 use borrow.Author.Needs.{needs}
 use lib.ListN.{length}
-use Rattle.corridor.specs.Layout.{cells, stateLength}
+use Rattle.layout.specs.Layout.{cells, stateLength}
 use Rattle.recut.proofs.Facts.{CutFits, cut-fits, state-is-long}
 use Rattle.recut.proofs.Cutting.{FilledTo, begins, goes-on, ends, cell-inside, vehicles-asked, next-asked, given-fits}
 use Rattle.recut.proofs.cut.Statement.{statement}
@@ -16,29 +16,21 @@ Inv-loop old state pieces new list₀ n m piece₀ cell₀ given₀ j₀ list pi
 abbrev μ-loop : tie.MeasureT-loop
 μ-loop old state pieces new list₀ n m piece₀ cell₀ given₀ j₀ list piece cell given j = m - j
 
+-- while the loop goes on, its index is a cell of the new table, and the piece's cell one of the old
+more : (c : tie.In-loop Inv-loop μ-loop) → c .before .loop .j < cells (c .before .before .before .before .before .before .before .before .before .args .new .now)
+more c = omega arith
+
 inside : (c : tie.In-loop Inv-loop μ-loop) → c .before .loop .cell < cells (c .before .before .before .before .before .before .before .before .before .args .old .now)
-inside c = cell-inside (c .before .loop .inv .2) (c .before .loop .inv .4) (omega arith)
-
-cells-requires : tie.Need-cells-requires Inv-loop μ-loop
-cells-requires c κs = search needs
-
-cells-requires-2 : tie.Need-cells-requires-2 Inv-loop μ-loop
-cells-requires-2 c κs = search needs
+inside c = cell-inside (c .before .loop .inv .2) (c .before .loop .inv .4) (more c)
 
 loop-holds : tie.Need-loop-holds Inv-loop μ-loop
 loop-holds c =
     let start = c .before .before .before .before .before .before .before in
     let lists = start .args in
-    (omega arith, omega arith, cut-fits (lists .old .now) (lists .state .now) (lists .pieces .now) (lists .new .now) (start .pre .0), state-is-long (lists .old .now) (lists .state .now) (lists .pieces .now) (lists .new .now) (start .pre .0), begins (lists .old .now) (lists .state .now) (lists .pieces .now) (lists .new .now) _ (start .pre .1))
-
-add-next : tie.Need-add-next Inv-loop μ-loop
-add-next c = search needs
+    (c .before .cells .ensures, c .cells2 .ensures, cut-fits (lists .old .now) (lists .state .now) (lists .pieces .now) (lists .new .now) (start .pre .0), state-is-long (lists .old .now) (lists .state .now) (lists .pieces .now) (lists .new .now) (start .pre .0), begins (lists .old .now) (lists .state .now) (lists .pieces .now) (lists .new .now) _ (start .pre .1))
 
 row-at-requires : tie.Need-row-at-requires Inv-loop μ-loop
 row-at-requires c κs = inside c
-
-row-at-requires-2 : tie.Need-row-at-requires-2 Inv-loop μ-loop
-row-at-requires-2 c κs = search needs
 
 count-at-requires : tie.Need-count-at-requires Inv-loop μ-loop
 count-at-requires c κs = omega (arith, inside (c .before .before))
@@ -46,32 +38,20 @@ count-at-requires c κs = omega (arith, inside (c .before .before))
 piece-vehicles-requires : tie.Need-piece-vehicles-requires Inv-loop μ-loop
 piece-vehicles-requires c κs =
     let inv = c .before .before .before .before .loop .inv in
-    vehicles-asked (inv .2) (inv .4) (omega arith) (c .before .before .row-at .ensures) (c .before .row-at2 .ensures) (c .count-at .ensures)
-
-set-count-requires : tie.Need-set-count-requires Inv-loop μ-loop
-set-count-requires c κs = search needs
+    vehicles-asked (inv .2) (inv .4) (more (c .before .before .before)) (c .before .before .row-at .ensures) (c .before .row-at2 .ensures) (c .count-at .ensures)
 
 queue-at-requires : tie.Need-queue-at-requires Inv-loop μ-loop
 queue-at-requires c κs = omega (arith, inside (c .before .before .before .before .before .before .before .before .before))
 
-first-or-later-requires : tie.Need-first-or-later-requires Inv-loop μ-loop
-first-or-later-requires c κs = search needs
-
-set-queue-requires : tie.Need-set-queue-requires Inv-loop μ-loop
-set-queue-requires c κs = search needs
-
 next-piece-requires : tie.Need-next-piece-requires Inv-loop μ-loop
 next-piece-requires c κs =
     let inv = c .before .before .before .before .before .before .before .before .before .before .before .before .before .before .before .loop .inv in
-    next-asked (inv .2) (inv .4) (omega arith)
+    next-asked (inv .2) (inv .4) (more (c .before .before .before .before .before .before .before .before .before .before .before .before .before .before))
 
 add-first-or-later : tie.Need-add-first-or-later Inv-loop μ-loop
 add-first-or-later c =
     let inv = c .before .before .before .before .before .before .before .before .before .before .before .before .before .before .before .before .loop .inv in
-    omega (arith, given-fits (inv .2) (inv .4) (omega arith) (c .before .before .before .before .before .before .before .before .before .before .before .before .before .before .row-at .ensures) (c .before .before .before .before .before .before .before .before .before .before .before .before .before .row-at2 .ensures) (c .before .before .before .before .before .before .before .before .before .before .before .before .count-at .ensures) (c .before .before .before .before .before .before .before .before .before .before .before .piece-vehicles .ensures))
-
-first-or-later-requires-2 : tie.Need-first-or-later-requires-2 Inv-loop μ-loop
-first-or-later-requires-2 c κs = search needs
+    omega (arith, given-fits (inv .2) (inv .4) (more (c .before .before .before .before .before .before .before .before .before .before .before .before .before .before .before)) (c .before .before .before .before .before .before .before .before .before .before .before .before .before .before .row-at .ensures) (c .before .before .before .before .before .before .before .before .before .before .before .before .before .row-at2 .ensures) (c .before .before .before .before .before .before .before .before .before .before .before .before .count-at .ensures) (c .before .before .before .before .before .before .before .before .before .before .before .piece-vehicles .ensures))
 
 loop-less : tie.Need-loop-less Inv-loop μ-loop
 loop-less c = omega (arith, c .before .before .before .before .before .before .before .before .before .before .before .before .before .before .before .before .before .loop .inv .2 .new-cells)
@@ -81,17 +61,8 @@ loop-again c =
     let row = c .before .before .before .before .before .before .before .before .before .before .before .before .before .before .before in
     let count = c .before .before .before .before .before .before .before .before .before .before .before .before .before in
     let inv = c .before .before .before .before .before .before .before .before .before .before .before .before .before .before .before .before .before .loop .inv in
-    let asked = vehicles-asked (inv .2) (inv .4) (omega arith) (row .row-at .ensures) (c .before .before .before .before .before .before .before .before .before .before .before .before .before .before .row-at2 .ensures) (count .count-at .ensures) in
-    (inv .0, inv .1, inv .2, inv .3, goes-on (inv .4) (omega arith) (asked .0) (inv .0) (inv .1) (row .row-at .ensures) (c .before .before .before .before .before .before .before .before .before .before .before .before .before .before .row-at2 .ensures) (count .count-at .ensures) (c .before .before .before .before .before .before .before .before .before .before .before .before .piece-vehicles .ensures) (c .before .before .before .before .before .before .before .before .before .before .set-count .ensures) (c .before .before .before .before .before .before .queue-at .ensures) (c .before .before .before .before .before .first-or-later .ensures) (c .before .before .before .before .set-queue .ensures) (c .before .next-piece .ensures) refl (c .first-or-later2 .ensures))
-
-entry-queue-requires : tie.Need-entry-queue-requires Inv-loop μ-loop
-entry-queue-requires c κs = search needs
-
-set-entry-queue-requires : tie.Need-set-entry-queue-requires Inv-loop μ-loop
-set-entry-queue-requires c κs = search needs
-
-same-length : tie.Need-same-length Inv-loop μ-loop
-same-length c = search needs
+    let asked = vehicles-asked (inv .2) (inv .4) (more (row .before)) (row .row-at .ensures) (c .before .before .before .before .before .before .before .before .before .before .before .before .before .before .row-at2 .ensures) (count .count-at .ensures) in
+    (inv .0, inv .1, inv .2, inv .3, goes-on (inv .4) (more (row .before)) (asked .0) (inv .0) (inv .1) (row .row-at .ensures) (c .before .before .before .before .before .before .before .before .before .before .before .before .before .before .row-at2 .ensures) (count .count-at .ensures) (c .before .before .before .before .before .before .before .before .before .before .before .before .piece-vehicles .ensures) (c .before .before .before .before .before .before .before .before .before .before .set-count .ensures) (c .before .before .before .before .before .before .queue-at .ensures) (c .before .before .before .before .before .first-or-later .ensures) (c .before .before .before .before .set-queue .ensures) (c .before .next-piece .ensures) refl (c .first-or-later2 .ensures))
 
 returns : tie.Need-returns Inv-loop μ-loop
 returns c = ends (c .before .before .before .before .before .before .loop .inv .4) (omega arith) (c .before .before .before .entry-queue .ensures) (c .before .before .set-entry-queue .ensures)
@@ -102,24 +73,24 @@ cut-spec =
     (tie.spec
     Inv-loop
     μ-loop
-    cells-requires
-    cells-requires-2
+    (λ c κs. search needs)
+    (λ c κs. search needs)
     loop-holds
-    add-next
+    (λ c. search needs)
     row-at-requires
-    row-at-requires-2
+    (λ c κs. search needs)
     count-at-requires
     piece-vehicles-requires
-    set-count-requires
+    (λ c κs. search needs)
     queue-at-requires
-    first-or-later-requires
-    set-queue-requires
+    (λ c κs. search needs)
+    (λ c κs. search needs)
     next-piece-requires
     add-first-or-later
-    first-or-later-requires-2
+    (λ c κs. search needs)
     loop-less
     loop-again
-    entry-queue-requires
-    set-entry-queue-requires
-    same-length
+    (λ c κs. search needs)
+    (λ c κs. search needs)
+    (λ c. search needs)
     returns)

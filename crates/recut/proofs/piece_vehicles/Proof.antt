@@ -7,14 +7,8 @@ use Rattle.recut.proofs.Shares.{share-grows, share-at-most}
 use Rattle.recut.proofs.piece_vehicles.Statement.{statement}
 use Rattle.recut.proofs.piece_vehicles.Tie as tie
 
-add-upto : tie.Need-add-upto
-add-upto c = search needs
-
 mul-upto : tie.Need-mul-upto
 mul-upto c = record { fits = product-fits _ _ (omega arith) (omega arith) }
-
-div-upto : tie.Need-div-upto
-div-upto c = search needs
 
 cast-result : tie.Need-cast-result
 cast-result c = omega (arith, share-at-most (c .args .n) (c .args .whole) (c .args .before + c .args .jam) (c .pre .0) (omega arith))
@@ -22,9 +16,13 @@ cast-result c = omega (arith, share-at-most (c .args .n) (c .args .whole) (c .ar
 sub-result : tie.Need-sub-result
 sub-result c = omega (arith, share-grows (c .args .n) (c .args .whole) (c .args .before) (c .args .before + c .args .jam) (c .pre .0) (omega arith))
 
-returns : tie.Need-returns
-returns c = search needs
-
 pub piece-vehicles-spec : {M : Type 1} → statement M
 piece-vehicles-spec =
-    tie.close (tie.spec add-upto mul-upto div-upto cast-result sub-result returns)
+    tie.close
+    (tie.spec
+    (λ c. search needs)
+    mul-upto
+    (λ c. search needs)
+    cast-result
+    sub-result
+    (λ c. search needs))

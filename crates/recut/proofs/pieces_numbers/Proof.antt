@@ -2,29 +2,17 @@
 use mathlib.Core.Path.{refl, sym, ap, _∙_}
 use borrow.Author.Needs.{needs}
 use Rattle.whole.specs.Sums.{sum}
-use Rattle.corridor.proofs.Answers.{stops, passes}
+use Rattle.refusals.proofs.Answers.{stops, passes}
 use Rattle.recut.specs.Pieces.{pieceCount}
 use Rattle.recut.proofs.Counts.{counts-fail, counts-fit}
 use Rattle.recut.proofs.pieces_numbers.Statement.{statement}
 use Rattle.recut.proofs.pieces_numbers.Tie as tie
-
-total-requires : tie.Need-total-requires
-total-requires c κs = search needs
-
-cells-requires : tie.Need-cells-requires
-cells-requires c κs = search needs
 
 returns : tie.Need-returns
 returns c = counts-fail (c .before .before .before .before .before .before .args .old .now) (c .before .before .before .before .before .before .args .pieces .now) (c .before .before .before .before .before .before .args .new .now) _ (λ e. c .if1 .taken (c .before .before .total .ensures ∙ ap (λ k. sum k (pieceCount (c .before .before .before .before .before .before .args .pieces .now))) (c .before .before .before .before .before .before .pre .0) ∙ e ∙ sym (c .before .cells .ensures)))
 
 cells-are-cut-requires : tie.Need-cells-are-cut-requires
 cells-are-cut-requires c κs = ((c .before .before .before .before .before .before .pre .0, c .before .before .before .before .before .before .pre .2), (sym (c .before .before .total .ensures ∙ ap (λ k. sum k (pieceCount (c .before .before .before .before .before .before .args .pieces .now))) (c .before .before .before .before .before .before .pre .0)) ∙ c .if1 .left ∙ c .before .cells .ensures))
-
-cells-requires-2 : tie.Need-cells-requires-2
-cells-requires-2 c κs = search needs
-
-add-t9 : tie.Need-add-t9
-add-t9 c = search needs
 
 returns-2 : tie.Need-returns-2
 returns-2 c = counts-fit (c .before .before .before .before .before .before .before .before .before .args .old .now) (c .before .before .before .before .before .before .before .before .before .args .pieces .now) (c .before .before .before .before .before .before .before .before .before .args .new .now) (sym (c .before .before .before .before .before .total .ensures ∙ ap (λ k. sum k (pieceCount (c .before .before .before .before .before .before .before .before .before .args .pieces .now))) (c .before .before .before .before .before .before .before .before .before .pre .0)) ∙ c .before .before .before .if1 .left ∙ c .before .before .before .before .cells .ensures) (stops _ _ (c .before .before .cells-are-cut .ensures) (search needs))
@@ -36,11 +24,11 @@ pub pieces-numbers-spec : {M : Type 1} → statement M
 pieces-numbers-spec =
     tie.close
     (tie.spec
-    total-requires
-    cells-requires
+    (λ c κs. search needs)
+    (λ c κs. search needs)
     returns
     cells-are-cut-requires
-    cells-requires-2
-    add-t9
+    (λ c κs. search needs)
+    (λ c. search needs)
     returns-2
     returns-3)

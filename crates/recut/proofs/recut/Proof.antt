@@ -3,8 +3,8 @@ use mathlib.Core.Path.{_≡_, sym, _∙_}
 use mathlib.Core.Bool.{true}
 use borrow.Author.Tests.{not-true, not-false}
 use borrow.Author.Needs.{needs}
-use Rattle.corridor.specs.declared.Answer.the-variants.{Accepted}
-use Rattle.corridor.specs.Checks.{answer}
+use Rattle.refusals.specs.declared.Answer.the-variants.{Accepted}
+use Rattle.refusals.specs.Checks.{answer}
 use Rattle.corridor.specs.Acceptance.{bothTablesChecks, stateAloneChecks}
 use Rattle.recut.specs.Recut.{recutListsFit, piecesNumbers}
 use Rattle.recut.proofs.Done.{lists-refused, tables-refused, state-refused, pieces-refused, pieces-ask, counts-length, list-length, cut-done}
@@ -24,77 +24,35 @@ numbers-told c = sym (c .enum-told2 .given .1) ∙ c .before .before .accept-sta
 pieces-told : (c : tie.After-enum-told3) → let lists = c .before .before .before .before .before .before .before .before .before .before .before .before .before .before .before .before .before .args in Accepted ≡ answer (piecesNumbers (lists .old .now) (lists .pieces .now) (lists .new .now))
 pieces-told c = sym (c .enum-told3 .given .1) ∙ c .before .before .pieces-numbers .ensures
 
-recut-lists-fit-requires : tie.Need-recut-lists-fit-requires
-recut-lists-fit-requires c κs = search needs
-
-same-length : tie.Need-same-length
-same-length c = search needs
-
 returns : tie.Need-returns
 returns c =
     let lists = c .before .before .before .before .before .before .before .before .args in
     lists-refused (lists .old .now) (lists .state .now) (lists .pieces .now) (lists .new .now) (lists .list .now) (sym (c .before .recut-lists-fit .ensures) ∙ not-true _ (c .if1 .taken))
-
-accept-tables-requires : tie.Need-accept-tables-requires
-accept-tables-requires c κs = search needs
-
-enum-known-tables : tie.Need-enum-known-tables
-enum-known-tables c = search needs
-
-same-length-2 : tie.Need-same-length-2
-same-length-2 c = search needs
 
 returns-2 : tie.Need-returns-2
 returns-2 c =
     let lists = c .before .before .before .before .before .before .before .before .before .before .before .before .args in
     tables-refused (lists .old .now) (lists .state .now) (lists .pieces .now) (lists .new .now) (lists .list .now) (fit (c .before .before .before .before)) (sym (c .before .tables .given .1) ∙ c .before .before .before .accept-tables .ensures)
 
-enum-told : tie.Need-enum-told
-enum-told c = search needs
-
-accept-state-alone-requires : tie.Need-accept-state-alone-requires
-accept-state-alone-requires c κs = search needs
-
-enum-known-numbers : tie.Need-enum-known-numbers
-enum-known-numbers c = search needs
-
-same-length-3 : tie.Need-same-length-3
-same-length-3 c = search needs
-
 returns-3 : tie.Need-returns-3
 returns-3 c =
     let lists = c .before .before .before .before .before .before .before .before .before .before .before .before .before .before .before .args in
     state-refused (lists .old .now) (lists .state .now) (lists .pieces .now) (lists .new .now) (lists .list .now) (fit (c .before .before .before .before .before .before .before)) (tables-told (c .before .before .before .before)) (sym (c .before .numbers .given .1) ∙ c .before .before .before .accept-state-alone .ensures)
-
-enum-told-2 : tie.Need-enum-told-2
-enum-told-2 c = search needs
 
 pieces-numbers-requires : tie.Need-pieces-numbers-requires
 pieces-numbers-requires c κs =
     let lists = c .before .before .before .before .before .before .before .before .before .before .before .before .before .before .args in
     pieces-ask (lists .old .now) (lists .state .now) (lists .pieces .now) (lists .new .now) (lists .list .now) (fit (c .before .before .before .before .before .before)) (tables-told (c .before .before .before))
 
-enum-known-eighth : tie.Need-enum-known-eighth
-enum-known-eighth c = search needs
-
-same-length-4 : tie.Need-same-length-4
-same-length-4 c = search needs
-
 returns-4 : tie.Need-returns-4
 returns-4 c =
     let lists = c .before .before .before .before .before .before .before .before .before .before .before .before .before .before .before .before .before .before .args in
     pieces-refused (lists .old .now) (lists .state .now) (lists .pieces .now) (lists .new .now) (lists .list .now) (fit (c .before .before .before .before .before .before .before .before .before .before)) (tables-told (c .before .before .before .before .before .before .before)) (numbers-told (c .before .before .before .before)) (sym (c .before .eighth .given .1) ∙ c .before .before .before .pieces-numbers .ensures)
 
-enum-told-3 : tie.Need-enum-told-3
-enum-told-3 c = search needs
-
 cut-requires : tie.Need-cut-requires
 cut-requires c κs =
     let lists = c .before .before .before .before .before .before .before .before .before .before .before .before .before .before .before .before .before .before .args in
     ((sym (tables-told (c .before .before .before .before .before .before .before)), sym (numbers-told (c .before .before .before .before)), counts-length (lists .old .now) (lists .state .now) (lists .pieces .now) (lists .new .now) (lists .list .now) (fit (c .before .before .before .before .before .before .before .before .before .before)), sym (pieces-told (c .before))), list-length (lists .old .now) (lists .state .now) (lists .pieces .now) (lists .new .now) (lists .list .now) (fit (c .before .before .before .before .before .before .before .before .before .before)))
-
-same-length-5 : tie.Need-same-length-5
-same-length-5 c = search needs
 
 returns-5 : tie.Need-returns-5
 returns-5 c =
@@ -105,24 +63,24 @@ pub recut-spec : {M : Type 1} → statement M
 recut-spec =
     tie.close
     (tie.spec
-    recut-lists-fit-requires
-    same-length
+    (λ c κs. search needs)
+    (λ c. search needs)
     returns
-    accept-tables-requires
-    enum-known-tables
-    same-length-2
+    (λ c κs. search needs)
+    (λ c. search needs)
+    (λ c. search needs)
     returns-2
-    enum-told
-    accept-state-alone-requires
-    enum-known-numbers
-    same-length-3
+    (λ c. search needs)
+    (λ c κs. search needs)
+    (λ c. search needs)
+    (λ c. search needs)
     returns-3
-    enum-told-2
+    (λ c. search needs)
     pieces-numbers-requires
-    enum-known-eighth
-    same-length-4
+    (λ c. search needs)
+    (λ c. search needs)
     returns-4
-    enum-told-3
+    (λ c. search needs)
     cut-requires
-    same-length-5
+    (λ c. search needs)
     returns-5)

@@ -5,7 +5,7 @@ use native.Mathlib.Omega.{arith}
 use borrow.Author.Needs.{needs}
 use lib.ListN.{length}
 use Rattle.whole.proofs.Search.{begins, goes-on}
-use Rattle.corridor.specs.Layout.{cells, demandLength}
+use Rattle.layout.specs.Layout.{cells, demandLength}
 use Rattle.run.proofs.Rows.{lists-fit, answer-is, part-length, part-within, next-start, Running, Looking, starts, steps, part-is-row, all-rows-done, row-refused}
 use Rattle.run.specs.Run.{rows, isAccepted}
 use Rattle.run.proofs.run_rows.Statement.{statement}
@@ -17,18 +17,6 @@ Inv-loop table state₀ demand sheet₀ width rows k₀ at₀ state sheet k at =
 
 abbrev μ-loop : tie.MeasureT-loop
 μ-loop table state₀ demand sheet₀ width rows k₀ at₀ state sheet k at = rows - k
-
-cells-requires : tie.Need-cells-requires Inv-loop μ-loop
-cells-requires c κs = search needs
-
-mul-width : tie.Need-mul-width Inv-loop μ-loop
-mul-width c = search needs
-
-add-width : tie.Need-add-width Inv-loop μ-loop
-add-width c = search needs
-
-div-rows : tie.Need-div-rows Inv-loop μ-loop
-div-rows c = search needs
 
 loop-holds : tie.Need-loop-holds Inv-loop μ-loop
 loop-holds c =
@@ -45,41 +33,17 @@ add-run-row c = omega (arith, part-within (c .before .before .before .before .be
 mul-run-row : tie.Need-mul-run-row Inv-loop μ-loop
 mul-run-row c = omega (arith, part-within (c .before .before .before .before .before .before .before .before .args .table .now) (c .before .before .before .before .before .before .before .before .args .demand .now) (c .before .before .loop .k) (c .before .before .loop .inv .0) (c .before .before .loop .inv .1) (c .before .before .loop .inv .2 .whole) (search needs))
 
-sub-run-row : tie.Need-sub-run-row Inv-loop μ-loop
-sub-run-row c = search needs
-
-part-run-row-start : tie.Need-part-run-row-start Inv-loop μ-loop
-part-run-row-start c = search needs
-
 part-run-row-end : tie.Need-part-run-row-end Inv-loop μ-loop
 part-run-row-end c = part-within (c .before .before .before .before .before .before .before .before .args .table .now) (c .before .before .before .before .before .before .before .before .args .demand .now) (c .before .before .loop .k) (c .before .before .loop .inv .0) (c .before .before .loop .inv .1) (c .before .before .loop .inv .2 .whole) (search needs)
 
 run-row-requires : tie.Need-run-row-requires Inv-loop μ-loop
 run-row-requires c κs = (c .before .before .before .before .loop .inv .3 .fits, (part-length (c .before .before .before .before .before .before .before .before .before .before .args .table .now) (c .before .before .before .before .before .before .before .before .before .before .args .demand .now) (c .before .before .before .before .loop .k) (c .before .before .before .before .loop .inv .0) (c .before .before .before .before .loop .inv .1) (c .before .before .before .before .loop .inv .2 .whole) (search needs), (c .before .before .before .before .loop .inv .3 .sheet-fits, c .before .before .before .before .loop .inv .3 .accepted)))
 
-enum-known-found : tie.Need-enum-known-found Inv-loop μ-loop
-enum-known-found c = search needs
-
-same-length : tie.Need-same-length Inv-loop μ-loop
-same-length c = omega arith
-
-same-length-2 : tie.Need-same-length-2 Inv-loop μ-loop
-same-length-2 c = omega arith
-
 returns : tie.Need-returns Inv-loop μ-loop
 returns c = row-refused _ _ _ _ (c .before .before .before .before .before .before .before .before .before .before .before .before .loop .inv .2) (search needs) (c .before .before .before .before .before .before .before .before .before .before .before .before .loop .inv .3) (part-is-row (c .before .before .before .before .before .before .before .before .before .before .before .before .before .before .before .before .before .before .args .table .now) (c .before .before .before .before .before .before .before .before .before .before .before .before .before .before .before .before .before .before .args .demand .now) (c .before .before .before .before .before .before .before .before .before .before .before .before .loop .k) (c .before .before .before .before .before .before .before .before .before .before .before .before .loop .inv .0) (c .before .before .before .before .before .before .before .before .before .before .before .before .loop .inv .1)) (c .before .before .before .before .before .before .before .run-row .ensures) (c .before .found .given .1)
 
-enum-told : tie.Need-enum-told Inv-loop μ-loop
-enum-told c = search needs
-
 add-at : tie.Need-add-at Inv-loop μ-loop
 add-at c = omega (arith, part-within (c .before .before .before .before .before .before .before .before .before .before .before .before .before .before .before .before .before .args .table .now) (c .before .before .before .before .before .before .before .before .before .before .before .before .before .before .before .before .before .args .demand .now) (c .before .before .before .before .before .before .before .before .before .before .before .loop .k) (c .before .before .before .before .before .before .before .before .before .before .before .loop .inv .0) (c .before .before .before .before .before .before .before .before .before .before .before .loop .inv .1) (c .before .before .before .before .before .before .before .before .before .before .before .loop .inv .2 .whole) (search needs))
-
-add-k : tie.Need-add-k Inv-loop μ-loop
-add-k c = search needs
-
-loop-less : tie.Need-loop-less Inv-loop μ-loop
-loop-less c = search needs
 
 loop-again : tie.Need-loop-again Inv-loop μ-loop
 loop-again c =
@@ -88,12 +52,6 @@ loop-again c =
     let yes = c .enum-told .given .1 in
     let row = (part-is-row (c .before .before .before .before .before .before .before .before .before .before .before .before .before .before .before .before .before .args .table .now) (c .before .before .before .before .before .before .before .before .before .before .before .before .before .before .before .before .before .args .demand .now) (c .before .before .before .before .before .before .before .before .before .before .before .loop .k) (c .before .before .before .before .before .before .before .before .before .before .before .loop .inv .0) (c .before .before .before .before .before .before .before .before .before .before .before .loop .inv .1)) in
     (inv .0, next-start _ _ (inv .1), goes-on (inv .2) (search needs) (ap isAccepted (answer-is _ _ _ _ (inv .3) row done)) (rw yes), steps _ _ _ _ (inv .3) row done yes, inv .4, omega arith, omega arith)
-
-same-length-3 : tie.Need-same-length-3 Inv-loop μ-loop
-same-length-3 c = omega arith
-
-same-length-4 : tie.Need-same-length-4 Inv-loop μ-loop
-same-length-4 c = omega arith
 
 returns-2 : tie.Need-returns-2 Inv-loop μ-loop
 returns-2 c = all-rows-done _ _ _ _ (c .before .loop .inv .2) (search needs) (c .before .loop .inv .3)
@@ -104,26 +62,26 @@ run-rows-spec =
     (tie.spec
     Inv-loop
     μ-loop
-    cells-requires
-    mul-width
-    add-width
-    div-rows
+    (λ c κs. search needs)
+    (λ c. search needs)
+    (λ c. search needs)
+    (λ c. search needs)
     loop-holds
     add-run-row
     mul-run-row
-    sub-run-row
-    part-run-row-start
+    (λ c. search needs)
+    (λ c. search needs)
     part-run-row-end
     run-row-requires
-    enum-known-found
-    same-length
-    same-length-2
+    (λ c. search needs)
+    (λ c. omega arith)
+    (λ c. omega arith)
     returns
-    enum-told
+    (λ c. search needs)
     add-at
-    add-k
-    loop-less
+    (λ c. search needs)
+    (λ c. search needs)
     loop-again
-    same-length-3
-    same-length-4
+    (λ c. omega arith)
+    (λ c. omega arith)
     returns-2)

@@ -2,39 +2,9 @@
 use mathlib.Core.Path.{refl, sym}
 use borrow.Author.Needs.{needs}
 use Rattle.text.specs.Reads.{rowOf, rowAtEnd}
-use Rattle.text.specs.Scans.{ended}
+use Rattle.scans.specs.Scans.{ended}
 use Rattle.text.proofs.finish.Statement.{statement}
 use Rattle.text.proofs.finish.Tie as tie
-
-feed-requires : tie.Need-feed-requires
-feed-requires c κs = search needs
-
-enum-known-step : tie.Need-enum-known-step
-enum-known-step c = search needs
-
-put-requires : tie.Need-put-requires
-put-requires c κs = search needs
-
-enum-told : tie.Need-enum-told
-enum-told c = search needs
-
-unfinished-requires : tie.Need-unfinished-requires
-unfinished-requires c κs = search needs
-
-enum-told-2 : tie.Need-enum-told-2
-enum-told-2 c = search needs
-
-unfinished-requires-2 : tie.Need-unfinished-requires-2
-unfinished-requires-2 c κs = search needs
-
-enum-told-3 : tie.Need-enum-told-3
-enum-told-3 c = search needs
-
-unfinished-requires-3 : tie.Need-unfinished-requires-3
-unfinished-requires-3 c κs = search needs
-
-same-length : tie.Need-same-length
-same-length c = search needs
 
 returns : tie.Need-returns
 unfolding ended rowOf rowAtEnd
@@ -56,16 +26,16 @@ pub finish-spec : {M : Type 1} → statement M
 finish-spec =
     tie.close
     (tie.spec
-    feed-requires
-    enum-known-step
-    put-requires
-    enum-told
-    unfinished-requires
-    enum-told-2
-    unfinished-requires-2
-    enum-told-3
-    unfinished-requires-3
-    same-length
+    (λ c κs. search needs)
+    (λ c. search needs)
+    (λ c κs. search needs)
+    (λ c. search needs)
+    (λ c κs. search needs)
+    (λ c. search needs)
+    (λ c κs. search needs)
+    (λ c. search needs)
+    (λ c κs. search needs)
+    (λ c. search needs)
     returns
     returns-2
     returns-3

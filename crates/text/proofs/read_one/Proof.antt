@@ -5,27 +5,6 @@ use Rattle.text.specs.Reads.{one}
 use Rattle.text.proofs.read_one.Statement.{statement}
 use Rattle.text.proofs.read_one.Tie as tie
 
-check-text-requires : tie.Need-check-text-requires
-check-text-requires c κs = search needs
-
-one-requires : tie.Need-one-requires
-one-requires c κs = search needs
-
-enum-known-found : tie.Need-enum-known-found
-enum-known-found c = search needs
-
-store-text-requires : tie.Need-store-text-requires
-store-text-requires c κs = search needs
-
-enum-known-found-2 : tie.Need-enum-known-found-2
-enum-known-found-2 c = search needs
-
-enum-told : tie.Need-enum-told
-enum-told c = search needs
-
-same-length : tie.Need-same-length
-same-length c = search needs
-
 returns : tie.Need-returns
 returns c = (
   sym (c .before .before .before .before .before .found .given .1) ∙ c .before .before .before .before .before .before .before .one .ensures
@@ -43,13 +22,13 @@ pub read-one-spec : {M : Type 1} → statement M
 read-one-spec =
     tie.close
     (tie.spec
-    check-text-requires
-    one-requires
-    enum-known-found
-    store-text-requires
-    enum-known-found-2
-    enum-told
-    same-length
+    (λ c κs. search needs)
+    (λ c κs. search needs)
+    (λ c. search needs)
+    (λ c κs. search needs)
+    (λ c. search needs)
+    (λ c. search needs)
+    (λ c. search needs)
     returns
     returns-2
     returns-3)

@@ -4,15 +4,6 @@ use borrow.Author.Needs.{needs}
 use Rattle.text.proofs.read_record.Statement.{statement}
 use Rattle.text.proofs.read_record.Tie as tie
 
-open-fields-requires : tie.Need-open-fields-requires
-open-fields-requires c κs = search needs
-
-read-bytes-requires : tie.Need-read-bytes-requires
-read-bytes-requires c κs = search needs
-
-same-length : tie.Need-same-length
-same-length c = search needs
-
 returns : tie.Need-returns
 returns c = let opened = c .before .before .before .before .before .before .open-fields in
     let bytes = rw (opened .kept .1 .1 .1 .0) at (c .before .before .read-bytes .ensures) in
@@ -20,4 +11,4 @@ returns c = let opened = c .before .before .before .before .before .before .open
 
 pub read-record-spec : {M : Type 1} → statement M
 read-record-spec =
-    tie.close (tie.spec open-fields-requires read-bytes-requires same-length returns)
+    tie.close (tie.spec (λ c κs. search needs) (λ c κs. search needs) (λ c. search needs) returns)

@@ -10,15 +10,11 @@ slice-aggregate-write-all c =
     let a = c .before .before .before .args in
     sym (length-take-le (a .end) (a .buffer .now) (c .before .if1 .taken))
 
-write-all-requires : tie.Need-write-all-requires
-write-all-requires c κs = search needs
-
-returns : tie.Need-returns
-returns c = search needs
-
-returns-2 : tie.Need-returns-2
-returns-2 c = search needs
-
 pub print-start-spec : {M : Type 1} → statement M
 print-start-spec =
-    tie.close (tie.spec slice-aggregate-write-all write-all-requires returns returns-2)
+    tie.close
+    (tie.spec
+    slice-aggregate-write-all
+    (λ c κs. search needs)
+    (λ c. search needs)
+    (λ c. search needs))

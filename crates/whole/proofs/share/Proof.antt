@@ -7,8 +7,5 @@ use Rattle.whole.proofs.share.Tie as tie
 mul-result : tie.Need-mul-result
 mul-result c = record { fits = product-fits (c .args .a) (c .args .b) (search needs) (search needs) }
 
-returns : tie.Need-returns
-returns c = search needs
-
 pub share-spec : {M : Type 1} → statement M
-share-spec = tie.close (tie.spec mul-result returns)
+share-spec = tie.close (tie.spec mul-result (λ c. search needs))

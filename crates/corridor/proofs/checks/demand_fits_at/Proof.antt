@@ -4,29 +4,8 @@ use Rattle.whole.proofs.Sums.{at-cell}
 use Rattle.corridor.proofs.checks.demand_fits_at.Statement.{statement}
 use Rattle.corridor.proofs.checks.demand_fits_at.Tie as tie
 
-entry-demand-requires : tie.Need-entry-demand-requires
-entry-demand-requires c κs = search needs
-
 returns : tie.Need-returns
-returns c = rw (c .before .if1 .taken) (cc)
-
-sub-i : tie.Need-sub-i
-sub-i c = search needs
-
-row-at-requires : tie.Need-row-at-requires
-row-at-requires c κs = search needs
-
-on-demand-at-requires : tie.Need-on-demand-at-requires
-on-demand-at-requires c κs = search needs
-
-cells-requires : tie.Need-cells-requires
-cells-requires c κs = search needs
-
-off-demand-at-requires : tie.Need-off-demand-at-requires
-off-demand-at-requires c κs = search needs
-
-demand-fits-requires : tie.Need-demand-fits-requires
-demand-fits-requires c κs = search needs
+returns c = rw (c .before .if1 .taken, c .entry-demand .ensures)
 
 returns-2 : tie.Need-returns-2
 returns-2 c =
@@ -40,12 +19,12 @@ pub demand-fits-at-spec : {M : Type 1} → statement M
 demand-fits-at-spec =
     tie.close
     (tie.spec
-    entry-demand-requires
+    (λ c κs. search needs)
     returns
-    sub-i
-    row-at-requires
-    on-demand-at-requires
-    cells-requires
-    off-demand-at-requires
-    demand-fits-requires
+    (λ c. search needs)
+    (λ c κs. search needs)
+    (λ c κs. search needs)
+    (λ c κs. search needs)
+    (λ c κs. search needs)
+    (λ c κs. search needs)
     returns-2)

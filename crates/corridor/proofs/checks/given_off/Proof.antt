@@ -4,9 +4,6 @@ use borrow.Author.Needs.{needs}
 use Rattle.corridor.proofs.checks.given_off.Statement.{statement}
 use Rattle.corridor.proofs.checks.given_off.Tie as tie
 
-with-ramp-requires : tie.Need-with-ramp-requires
-with-ramp-requires c κs = search needs
-
 returns : tie.Need-returns
 returns c = simp (eq-eqb _ _ (c .before .if1 .taken)) (c .with-ramp .ensures)
 
@@ -14,4 +11,4 @@ returns-2 : tie.Need-returns-2
 returns-2 c = simp (ne-eqb _ _ (c .if1 .left))
 
 pub given-off-spec : {M : Type 1} → statement M
-given-off-spec = tie.close (tie.spec with-ramp-requires returns returns-2)
+given-off-spec = tie.close (tie.spec (λ c κs. search needs) returns returns-2)

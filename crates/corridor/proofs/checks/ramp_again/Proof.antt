@@ -10,24 +10,6 @@ use Rattle.corridor.proofs.checks.ramp_again.Tie as tie
 returns : tie.Need-returns
 returns c = (rw (c .if1 .taken), rw (c .if1 .taken))
 
-mul-word : tie.Need-mul-word
-mul-word c = search needs
-
-element-copy-out-word : tie.Need-element-copy-out-word
-element-copy-out-word c = search needs
-
-shl-marks : tie.Need-shl-marks
-shl-marks c = search needs
-
-mul-marks : tie.Need-mul-marks
-mul-marks c = search needs
-
-element-write-marks : tie.Need-element-write-marks
-element-write-marks c = search needs
-
-shr-result : tie.Need-shr-result
-shr-result c = search needs
-
 returns-2 : tie.Need-returns-2
 returns-2 c =
     let ramp = c .before .before .args .ramp in
@@ -38,10 +20,10 @@ ramp-again-spec =
     tie.close
     (tie.spec
     returns
-    mul-word
-    element-copy-out-word
-    shl-marks
-    mul-marks
-    element-write-marks
-    shr-result
+    (λ c. search needs)
+    (λ c. search needs)
+    (λ c. search needs)
+    (λ c. search needs)
+    (λ c. search needs)
+    (λ c. search needs)
     returns-2)

@@ -5,7 +5,7 @@ use mathlib.Core.Path.{_≡_, _∙_, refl}
 use native.Mathlib.Omega.{arith}
 use borrow.Author.Needs.{needs}
 use Rattle.whole.proofs.Search.{Searching, begins, goes-on, found, not-found}
-use Rattle.corridor.specs.Layout.{cells, rampAt}
+use Rattle.layout.specs.Layout.{cells, rampAt}
 use Rattle.corridor.specs.Acceptance.{rampIsNew, rampsOnce}
 use Rattle.corridor.proofs.Ramps.{Marked, marks-down, mark-up, marks-tell, on-ramp-at, off-ramp-at}
 use Rattle.corridor.proofs.checks.ramps_once.Statement.{statement}
@@ -38,23 +38,11 @@ on-below c = omega (arith, on-is c, c .before .before .before .before .before .p
 off-below : (c : Here) → c .row-at .result .off < 65_536
 off-below c = omega (arith, off-is c, c .before .before .before .before .before .pre (2 * turn c + 1) (omega arith))
 
-cells-requires : tie.Need-cells-requires Inv-loop μ-loop
-cells-requires c κs = search needs
-
 loop-holds : tie.Need-loop-holds Inv-loop μ-loop
 loop-holds c = (begins _ (omega arith), marks-down _)
 
-row-at-requires : tie.Need-row-at-requires Inv-loop μ-loop
-row-at-requires c κs = search needs
-
-cast-ramp-again : tie.Need-cast-ramp-again Inv-loop μ-loop
-cast-ramp-again c = search needs
-
 ramp-again-requires : tie.Need-ramp-again-requires Inv-loop μ-loop
 ramp-again-requires c κs = on-below (c .before .before)
-
-mul-result : tie.Need-mul-result Inv-loop μ-loop
-mul-result c = search needs
 
 returns : tie.Need-returns Inv-loop μ-loop
 returns c =
@@ -68,28 +56,13 @@ passed c =
     let row = c .before .before .before .before in
     (goes-on (inv .0) (search needs) refl (marks-tell (inv .1) (on-is row) (c .before .ramp-again .ensures .0) ∙ c .if1 .left), mark-up (inv .1) (on-is row) (on-below row) (c .before .ramp-again .ensures .1))
 
-cast-ramp-again-2 : tie.Need-cast-ramp-again-2 Inv-loop μ-loop
-cast-ramp-again-2 c = search needs
-
 ramp-again-requires-2 : tie.Need-ramp-again-requires-2 Inv-loop μ-loop
 ramp-again-requires-2 c κs = off-below (c .before .before .before .before .before .before)
-
-mul-result-2 : tie.Need-mul-result-2 Inv-loop μ-loop
-mul-result-2 c = search needs
-
-add-result : tie.Need-add-result Inv-loop μ-loop
-add-result c = search needs
 
 returns-2 : tie.Need-returns-2 Inv-loop μ-loop
 returns-2 c =
     let at = passed (c .before .before .before .before) in
     found (at .0) (omega arith) refl (marks-tell (at .1) (off-is (c .before .before .before .before .before .before .before .before)) (c .before .ramp-again2 .ensures .0) ∙ c .if2 .taken)
-
-add-i : tie.Need-add-i Inv-loop μ-loop
-add-i c = search needs
-
-loop-less : tie.Need-loop-less Inv-loop μ-loop
-loop-less c = search needs
 
 loop-again : tie.Need-loop-again Inv-loop μ-loop
 loop-again c =
@@ -98,9 +71,6 @@ loop-again c =
     let twice : 2 * (turn row + 1) ≡ 2 * turn row + 1 + 1 = omega arith in
     rw twice
     (goes-on (at .0) (omega arith) refl (marks-tell (at .1) (off-is row) (c .before .ramp-again2 .ensures .0) ∙ c .if2 .left), mark-up (at .1) (off-is row) (off-below row) (c .before .ramp-again2 .ensures .1))
-
-mul-result-3 : tie.Need-mul-result-3 Inv-loop μ-loop
-mul-result-3 c = search needs
 
 returns-3 : tie.Need-returns-3 Inv-loop μ-loop
 returns-3 c = not-found (c .before .loop .inv .0) (omega arith)
@@ -111,20 +81,20 @@ ramps-once-spec =
     (tie.spec
     Inv-loop
     μ-loop
-    cells-requires
+    (λ c κs. search needs)
     loop-holds
-    row-at-requires
-    cast-ramp-again
+    (λ c κs. search needs)
+    (λ c. search needs)
     ramp-again-requires
-    mul-result
+    (λ c. search needs)
     returns
-    cast-ramp-again-2
+    (λ c. search needs)
     ramp-again-requires-2
-    mul-result-2
-    add-result
+    (λ c. search needs)
+    (λ c. search needs)
     returns-2
-    add-i
-    loop-less
+    (λ c. search needs)
+    (λ c. search needs)
     loop-again
-    mul-result-3
+    (λ c. search needs)
     returns-3)

@@ -13,26 +13,11 @@ Inv-loop table n i₀ i = Searching (roomsShared table .places) (roomsShared tab
 abbrev μ-loop : tie.MeasureT-loop
 μ-loop table n i₀ i = n - i
 
-cells-requires : tie.Need-cells-requires Inv-loop μ-loop
-cells-requires c κs = search needs
-
 loop-holds : tie.Need-loop-holds Inv-loop μ-loop
 loop-holds c = begins _ (c .cells .ensures)
 
-row-at-requires : tie.Need-row-at-requires Inv-loop μ-loop
-row-at-requires c κs = search needs
-
-room-shared-requires : tie.Need-room-shared-requires Inv-loop μ-loop
-room-shared-requires c κs = search needs
-
 returns : tie.Need-returns Inv-loop μ-loop
 returns c = found (c .before .before .before .before .loop .inv) (search needs) (c .before .room-shared .ensures ∙ ap roomShared (c .before .before .row-at .ensures)) (c .if1 .taken)
-
-add-i : tie.Need-add-i Inv-loop μ-loop
-add-i c = search needs
-
-loop-less : tie.Need-loop-less Inv-loop μ-loop
-loop-less c = search needs
 
 loop-again : tie.Need-loop-again Inv-loop μ-loop
 loop-again c = goes-on (c .before .before .before .before .loop .inv) (search needs) (c .before .room-shared .ensures ∙ ap roomShared (c .before .before .row-at .ensures)) (c .if1 .left)
@@ -46,12 +31,12 @@ rooms-shared-spec =
     (tie.spec
     Inv-loop
     μ-loop
-    cells-requires
+    (λ c κs. search needs)
     loop-holds
-    row-at-requires
-    room-shared-requires
+    (λ c κs. search needs)
+    (λ c κs. search needs)
     returns
-    add-i
-    loop-less
+    (λ c. search needs)
+    (λ c. search needs)
     loop-again
     returns-2)

@@ -4,7 +4,7 @@ use mathlib.Core.Path.{ap}
 use mathlib.Core.Bool.{_&&_}
 use borrow.Author.Needs.{needs}
 use Rattle.whole.proofs.Search.{Searching, begins, goes-on, every-found, every-ends}
-use Rattle.corridor.specs.Layout.{cells}
+use Rattle.layout.specs.Layout.{cells}
 use Rattle.corridor.proofs.Ranges.{both-same}
 use Rattle.corridor.specs.Acceptance.{demandInRange, queuesHold}
 use Rattle.corridor.proofs.checks.row_passes.Statement.{statement}
@@ -17,29 +17,11 @@ Inv-loop table state demand n i₀ i =
 abbrev μ-loop : tie.MeasureT-loop
 μ-loop table state demand n i₀ i = n - i
 
-cells-requires : tie.Need-cells-requires Inv-loop μ-loop
-cells-requires c κs = search needs
-
-add-n : tie.Need-add-n Inv-loop μ-loop
-add-n c = search needs
-
 loop-holds : tie.Need-loop-holds Inv-loop μ-loop
 loop-holds c = begins _ (ap (λ m. m + 1) (c .cells .ensures))
 
-demand-fits-at-requires : tie.Need-demand-fits-at-requires Inv-loop μ-loop
-demand-fits-at-requires c κs = search needs
-
-queue-holds-at-requires : tie.Need-queue-holds-at-requires Inv-loop μ-loop
-queue-holds-at-requires c κs = search needs
-
 returns : tie.Need-returns Inv-loop μ-loop
 returns c = let both = both-same (c .before .before .demand-fits-at .ensures) (c .before .queue-holds-at .ensures) in every-found (c .before .before .before .before .loop .inv) (search needs) both (c .if1 .taken)
-
-add-i : tie.Need-add-i Inv-loop μ-loop
-add-i c = search needs
-
-loop-less : tie.Need-loop-less Inv-loop μ-loop
-loop-less c = search needs
 
 loop-again : tie.Need-loop-again Inv-loop μ-loop
 loop-again c = let both = both-same (c .before .before .demand-fits-at .ensures) (c .before .queue-holds-at .ensures) in goes-on (c .before .before .before .before .loop .inv) (search needs) both (c .if1 .left)
@@ -53,13 +35,13 @@ row-passes-spec =
     (tie.spec
     Inv-loop
     μ-loop
-    cells-requires
-    add-n
+    (λ c κs. search needs)
+    (λ c. search needs)
     loop-holds
-    demand-fits-at-requires
-    queue-holds-at-requires
+    (λ c κs. search needs)
+    (λ c κs. search needs)
     returns
-    add-i
-    loop-less
+    (λ c. search needs)
+    (λ c. search needs)
     loop-again
     returns-2)

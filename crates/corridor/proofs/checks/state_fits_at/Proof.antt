@@ -4,29 +4,8 @@ use Rattle.whole.proofs.Sums.{at-cell}
 use Rattle.corridor.proofs.checks.state_fits_at.Statement.{statement}
 use Rattle.corridor.proofs.checks.state_fits_at.Tie as tie
 
-entry-queue-requires : tie.Need-entry-queue-requires
-entry-queue-requires c κs = search needs
-
 returns : tie.Need-returns
-returns c = rw (c .before .if1 .taken) (cc)
-
-sub-i : tie.Need-sub-i
-sub-i c = search needs
-
-row-at-requires : tie.Need-row-at-requires
-row-at-requires c κs = search needs
-
-count-at-requires : tie.Need-count-at-requires
-count-at-requires c κs = search needs
-
-cells-requires : tie.Need-cells-requires
-cells-requires c κs = search needs
-
-queue-at-requires : tie.Need-queue-at-requires
-queue-at-requires c κs = search needs
-
-state-fits-requires : tie.Need-state-fits-requires
-state-fits-requires c κs = search needs
+returns c = rw (c .before .if1 .taken, c .entry-queue .ensures)
 
 returns-2 : tie.Need-returns-2
 returns-2 c =
@@ -40,12 +19,12 @@ pub state-fits-at-spec : {M : Type 1} → statement M
 state-fits-at-spec =
     tie.close
     (tie.spec
-    entry-queue-requires
+    (λ c κs. search needs)
     returns
-    sub-i
-    row-at-requires
-    count-at-requires
-    cells-requires
-    queue-at-requires
-    state-fits-requires
+    (λ c. search needs)
+    (λ c κs. search needs)
+    (λ c κs. search needs)
+    (λ c κs. search needs)
+    (λ c κs. search needs)
+    (λ c κs. search needs)
     returns-2)

@@ -13,26 +13,11 @@ Inv-loop table state n i₀ i = Searching (stateInRange table state .places) (st
 abbrev μ-loop : tie.MeasureT-loop
 μ-loop table state n i₀ i = n - i
 
-cells-requires : tie.Need-cells-requires Inv-loop μ-loop
-cells-requires c κs = search needs
-
-add-n : tie.Need-add-n Inv-loop μ-loop
-add-n c = search needs
-
 loop-holds : tie.Need-loop-holds Inv-loop μ-loop
 loop-holds c = begins _ (ap (λ m. m + 1) (c .cells .ensures))
 
-state-fits-at-requires : tie.Need-state-fits-at-requires Inv-loop μ-loop
-state-fits-at-requires c κs = search needs
-
 returns : tie.Need-returns Inv-loop μ-loop
 returns c = found (c .before .before .before .loop .inv) (search needs) (c .before .state-fits-at .ensures) (c .if1 .taken)
-
-add-i : tie.Need-add-i Inv-loop μ-loop
-add-i c = search needs
-
-loop-less : tie.Need-loop-less Inv-loop μ-loop
-loop-less c = search needs
 
 loop-again : tie.Need-loop-again Inv-loop μ-loop
 loop-again c = goes-on (c .before .before .before .loop .inv) (search needs) (c .before .state-fits-at .ensures) (c .if1 .left)
@@ -46,12 +31,12 @@ state-in-range-spec =
     (tie.spec
     Inv-loop
     μ-loop
-    cells-requires
-    add-n
+    (λ c κs. search needs)
+    (λ c. search needs)
     loop-holds
-    state-fits-at-requires
+    (λ c κs. search needs)
     returns
-    add-i
-    loop-less
+    (λ c. search needs)
+    (λ c. search needs)
     loop-again
     returns-2)

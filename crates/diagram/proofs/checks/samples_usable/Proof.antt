@@ -23,9 +23,6 @@ Inv-loop flow occupancy settings n capacity₀ i₀ capacity i = Searching (leng
 abbrev μ-loop : tie.MeasureT-loop
 μ-loop flow occupancy settings n capacity₀ i₀ capacity i = n - i
 
-settings-fit-requires : tie.Need-settings-fit-requires Inv-loop μ-loop
-settings-fit-requires c κs = search needs
-
 returns : tie.Need-returns Inv-loop μ-loop
 returns c = let lists = c .before .before .before .before .args in
     let check = samplesUsable (lists .settings) (lists .flow .now) (lists .occupancy .now) in
@@ -35,27 +32,12 @@ loop-holds : tie.Need-loop-holds Inv-loop μ-loop
 unfolding ofBits ofInt
 loop-holds c = (goes-on (begins _ refl) (omega arith) (c .before .settings-fit .ensures) (c .if1 .left), passes.begins _ _ _ _)
 
-sample-at-requires : tie.Need-sample-at-requires Inv-loop μ-loop
-sample-at-requires c κs = search needs
-
-add-i : tie.Need-add-i Inv-loop μ-loop
-add-i c = search needs
-
-usable-requires : tie.Need-usable-requires Inv-loop μ-loop
-usable-requires c κs = search needs
-
 returns-2 : tie.Need-returns-2 Inv-loop μ-loop
 returns-2 c = let at = c .before .before .before .before in
     let lists = at .before .before .before .before .before .args in (
       found (at .loop .inv .0) (omega arith) (tested (lists .settings) (lists .flow .now) (lists .occupancy .now) (at .loop .i) (c .before .before .sample-at .ensures) (c .before .usable .ensures)) (c .if2 .taken),
       λ h. absurd (omega arith),
     )
-
-larger-flow-requires : tie.Need-larger-flow-requires Inv-loop μ-loop
-larger-flow-requires c κs = search needs
-
-loop-less : tie.Need-loop-less Inv-loop μ-loop
-loop-less c = search needs
 
 loop-again : tie.Need-loop-again Inv-loop μ-loop
 loop-again c = let at = c .before .before .before .before .before in
@@ -64,9 +46,6 @@ loop-again c = let at = c .before .before .before .before .before in
       goes-on (at .loop .inv .0) (omega arith) (tested (lists .settings) (lists .flow .now) (lists .occupancy .now) (at .loop .i) read (c .before .before .usable .ensures)) (c .before .if2 .left),
       passes.goes-on (lists .settings) (lists .flow .now) (lists .occupancy .now) (at .loop .inv .1) (search needs) (search needs) read (c .larger-flow .ensures),
     )
-
-add-t12 : tie.Need-add-t12 Inv-loop μ-loop
-add-t12 c = search needs
 
 returns-3 : tie.Need-returns-3 Inv-loop μ-loop
 returns-3 c = let lists = c .before .before .before .before .before .before .args in (
@@ -80,15 +59,15 @@ samples-usable-spec =
     (tie.spec
     Inv-loop
     μ-loop
-    settings-fit-requires
+    (λ c κs. search needs)
     returns
     loop-holds
-    sample-at-requires
-    add-i
-    usable-requires
+    (λ c κs. search needs)
+    (λ c. search needs)
+    (λ c κs. search needs)
     returns-2
-    larger-flow-requires
-    loop-less
+    (λ c κs. search needs)
+    (λ c. search needs)
     loop-again
-    add-t12
+    (λ c. search needs)
     returns-3)

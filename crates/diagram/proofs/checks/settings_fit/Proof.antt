@@ -6,19 +6,10 @@ use lib.Ieee.{ofBits, ofInt}
 use Rattle.diagram.proofs.checks.settings_fit.Statement.{statement}
 use Rattle.diagram.proofs.checks.settings_fit.Tie as tie
 
-between-requires : tie.Need-between-requires
-between-requires c κs = search needs
-
-within-requires : tie.Need-within-requires
-within-requires c κs = search needs
-
-cell-settings-fit-requires : tie.Need-cell-settings-fit-requires
-cell-settings-fit-requires c κs = search needs
-
 returns : tie.Need-returns
 unfolding ofBits ofInt
 returns c = ap₂ _&&_ (ap₂ _&&_ (c .before .before .between .ensures) (c .before .within .ensures)) (c .cell-settings-fit .ensures)
 
 pub settings-fit-spec : {M : Type 1} → statement M
 settings-fit-spec =
-    tie.close (tie.spec between-requires within-requires cell-settings-fit-requires returns)
+    tie.close (tie.spec (λ c κs. search needs) (λ c κs. search needs) (λ c κs. search needs) returns)

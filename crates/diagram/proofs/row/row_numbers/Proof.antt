@@ -14,9 +14,6 @@ rounded-down-requires-2 c κs = wider (c .before .args .values .w) 65_536 4_000_
 rounded-down-requires-3 : tie.Need-rounded-down-requires-3
 rounded-down-requires-3 c κs = wider (c .before .before .args .values .capacity) 1_000_000 4_000_000 (lit< tt) (lit≤ tt) (lit≤ tt) (c .before .before .pre .1 .1 .0)
 
-rounded-down-requires-4 : tie.Need-rounded-down-requires-4
-rounded-down-requires-4 c κs = search needs
-
 returns : tie.Need-returns
 returns c = numbers-are (c .before .before .before .before .args .values) _ _ _ _ (c .before .before .before .rounded-down .ensures) (c .before .before .rounded-down2 .ensures) (c .before .rounded-down3 .ensures) (c .rounded-down4 .ensures)
 
@@ -27,5 +24,5 @@ row-numbers-spec =
     rounded-down-requires
     rounded-down-requires-2
     rounded-down-requires-3
-    rounded-down-requires-4
+    (λ c κs. search needs)
     returns)

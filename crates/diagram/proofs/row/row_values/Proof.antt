@@ -6,15 +6,6 @@ use Rattle.diagram.specs.RowNumbers.{rowValues}
 use Rattle.diagram.proofs.row.row_values.Statement.{statement}
 use Rattle.diagram.proofs.row.row_values.Tie as tie
 
-share-requires : tie.Need-share-requires
-share-requires c κs = search needs
-
-share-requires-2 : tie.Need-share-requires-2
-share-requires-2 c κs = search needs
-
-int-to-float-t6 : tie.Need-int-to-float-t6
-int-to-float-t6 c = search needs
-
 returns : tie.Need-returns
 unfolding ofBits ofInt
 returns c = let given = c .before .before .before .before .before .args in
@@ -22,4 +13,5 @@ returns c = let given = c .before .before .before .before .before .args in
     ap₂ (λ v w. record { v = v; w = w; capacity = values .capacity; jam = values .jam }) (c .before .before .before .before .share .ensures) (c .before .before .before .share2 .ensures)
 
 pub row-values-spec : {M : Type 1} → statement M
-row-values-spec = tie.close (tie.spec share-requires share-requires-2 int-to-float-t6 returns)
+row-values-spec =
+    tie.close (tie.spec (λ c κs. search needs) (λ c κs. search needs) (λ c. search needs) returns)

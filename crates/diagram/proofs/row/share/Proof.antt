@@ -5,12 +5,9 @@ use lib.Ieee.{ofBits, ofInt}
 use Rattle.diagram.proofs.row.share.Statement.{statement}
 use Rattle.diagram.proofs.row.share.Tie as tie
 
-int-to-float-result : tie.Need-int-to-float-result
-int-to-float-result c = search needs
-
 returns : tie.Need-returns
 unfolding ofBits ofInt
 returns c = refl
 
 pub share-spec : {M : Type 1} → statement M
-share-spec = tie.close (tie.spec int-to-float-result returns)
+share-spec = tie.close (tie.spec (λ c. search needs) returns)

@@ -3,8 +3,5 @@ use mathlib.Core.Path.{refl}
 use Rattle.diagram.proofs.totals.is_above.Statement.{statement}
 use Rattle.diagram.proofs.totals.is_above.Tie as tie
 
-returns : tie.Need-returns
-returns c = refl
-
 pub is-above-spec : {M : Type 1} → statement M
-is-above-spec = tie.close (tie.spec returns)
+is-above-spec = tie.close (tie.spec (λ c. refl))

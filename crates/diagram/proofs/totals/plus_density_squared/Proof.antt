@@ -3,17 +3,9 @@ use borrow.Author.Needs.{needs}
 use Rattle.diagram.proofs.totals.plus_density_squared.Statement.{statement}
 use Rattle.diagram.proofs.totals.plus_density_squared.Tie as tie
 
-enum-known-sample : tie.Need-enum-known-sample
-enum-known-sample c = search needs
-
-enum-told : tie.Need-enum-told
-enum-told c = search needs
-
 returns : tie.Need-returns
 returns c = rw (c .before .sample .given .1)
 
-returns-2 : tie.Need-returns-2
-returns-2 c = search needs
-
 pub plus-density-squared-spec : {M : Type 1} → statement M
-plus-density-squared-spec = tie.close (tie.spec enum-known-sample enum-told returns returns-2)
+plus-density-squared-spec =
+    tie.close (tie.spec (λ c. search needs) (λ c. search needs) returns (λ c. search needs))

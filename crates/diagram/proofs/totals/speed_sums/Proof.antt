@@ -21,21 +21,6 @@ loop-holds : tie.Need-loop-holds Inv-loop μ-loop
 unfolding ofBits ofInt
 loop-holds c = (begins _ _ _ _, begins _ _ _ _)
 
-sample-at-requires : tie.Need-sample-at-requires Inv-loop μ-loop
-sample-at-requires c κs = search needs
-
-plus-flow-by-density-requires : tie.Need-plus-flow-by-density-requires Inv-loop μ-loop
-plus-flow-by-density-requires c κs = search needs
-
-plus-density-squared-requires : tie.Need-plus-density-squared-requires Inv-loop μ-loop
-plus-density-squared-requires c κs = search needs
-
-add-i : tie.Need-add-i Inv-loop μ-loop
-add-i c = search needs
-
-loop-less : tie.Need-loop-less Inv-loop μ-loop
-loop-less c = search needs
-
 loop-again : tie.Need-loop-again Inv-loop μ-loop
 loop-again c = let at = c .before .before .before .before in
     let lists = at .before .before .before .args in
@@ -54,10 +39,10 @@ speed-sums-spec =
     Inv-loop
     μ-loop
     loop-holds
-    sample-at-requires
-    plus-flow-by-density-requires
-    plus-density-squared-requires
-    add-i
-    loop-less
+    (λ c κs. search needs)
+    (λ c κs. search needs)
+    (λ c κs. search needs)
+    (λ c. search needs)
+    (λ c. search needs)
     loop-again
     returns)

@@ -20,18 +20,6 @@ loop-holds : tie.Need-loop-holds Inv-loop μ-loop
 unfolding ofBits ofInt
 loop-holds c = (begins _ _ _ _, begins _ _ _ _)
 
-sample-at-requires : tie.Need-sample-at-requires Inv-loop μ-loop
-sample-at-requires c κs = search needs
-
-plus-above-requires : tie.Need-plus-above-requires Inv-loop μ-loop
-plus-above-requires c κs = search needs
-
-add-i : tie.Need-add-i Inv-loop μ-loop
-add-i c = search needs
-
-loop-less : tie.Need-loop-less Inv-loop μ-loop
-loop-less c = search needs
-
 loop-again : tie.Need-loop-again Inv-loop μ-loop
 loop-again c = let at = c .before .before .before in
     let lists = at .before .before .before .args in
@@ -51,9 +39,9 @@ wave-sums-spec =
     Inv-loop
     μ-loop
     loop-holds
-    sample-at-requires
-    plus-above-requires
-    add-i
-    loop-less
+    (λ c κs. search needs)
+    (λ c κs. search needs)
+    (λ c. search needs)
+    (λ c. search needs)
     loop-again
     returns)

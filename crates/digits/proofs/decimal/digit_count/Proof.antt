@@ -14,15 +14,9 @@ Inv-loop number rest₀ count₀ rest count = (count + length (digitsOf rest) �
 abbrev μ-loop : tie.MeasureT-loop
 μ-loop number rest₀ count₀ rest count = rest
 
-loop-holds : tie.Need-loop-holds Inv-loop μ-loop
-loop-holds c = refl
-
 add-count : tie.Need-add-count Inv-loop μ-loop
 add-count c = let n = c .before .before .args .number in
     omega (arith, at-most-20 n (omega arith), c .before .loop .inv, some-digit (c .before .loop .rest))
-
-loop-less : tie.Need-loop-less Inv-loop μ-loop
-loop-less c = omega arith
 
 loop-again : tie.Need-loop-again Inv-loop μ-loop
 loop-again c = omega (arith, c .before .loop .inv, one-longer (c .before .loop .rest) (c .loop-test .taken))
@@ -33,4 +27,4 @@ returns c = let alone : length (digitsOf (c .before .loop .rest)) ≡ 1 = rw (on
 
 pub digit-count-spec : {M : Type 1} → statement M
 digit-count-spec =
-    tie.close (tie.spec Inv-loop μ-loop loop-holds add-count loop-less loop-again returns)
+    tie.close (tie.spec Inv-loop μ-loop (λ c. refl) add-count (λ c. omega arith) loop-again returns)

@@ -17,12 +17,9 @@ returns c = let a = c .before .args in sym (lt-leb (a .at + length (digitsOf (a 
 returns-2 : tie.Need-returns-2
 returns-2 c = let a = c .before .before .args in sym (le-leb (a .at + length (digitsOf (a .number))) (a .size) (omega (arith, at-most-20 (a .number) (omega arith))))
 
-digit-count-requires : tie.Need-digit-count-requires
-digit-count-requires c κs = search needs
-
 returns-3 : tie.Need-returns-3
 returns-3 c = let a = c .before .before .before .args in
     same-test (c .digit-count .result) (a .size - a .at) (a .at + length (digitsOf (a .number))) (a .size) (λ h. omega (arith, c .digit-count .ensures)) (λ h. omega (arith, c .digit-count .ensures))
 
 pub fits-spec : {M : Type 1} → statement M
-fits-spec = tie.close (tie.spec returns returns-2 digit-count-requires returns-3)
+fits-spec = tie.close (tie.spec returns returns-2 (λ c κs. search needs) returns-3)

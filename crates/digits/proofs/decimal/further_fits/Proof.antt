@@ -16,29 +16,8 @@ abbrev μ-loop : tie.MeasureT-loop
 loop-holds : tie.Need-loop-holds Inv-loop μ-loop
 loop-holds c = counts _ _
 
-mul-digit-count : tie.Need-mul-digit-count Inv-loop μ-loop
-mul-digit-count c = search needs
-
-shared-slice-read-digit-count : tie.Need-shared-slice-read-digit-count Inv-loop μ-loop
-shared-slice-read-digit-count c = search needs
-
-digit-count-requires : tie.Need-digit-count-requires Inv-loop μ-loop
-digit-count-requires c κs = search needs
-
 returns : tie.Need-returns Inv-loop μ-loop
 returns c = count-over (c .before .before .before .before .loop .inv) (search needs) _ (c .before .digit-count .ensures) (c .if1 .taken)
-
-sub-left : tie.Need-sub-left Inv-loop μ-loop
-sub-left c = search needs
-
-sub-left-2 : tie.Need-sub-left-2 Inv-loop μ-loop
-sub-left-2 c = omega arith
-
-add-i : tie.Need-add-i Inv-loop μ-loop
-add-i c = search needs
-
-loop-less : tie.Need-loop-less Inv-loop μ-loop
-loop-less c = omega arith
 
 loop-again : tie.Need-loop-again Inv-loop μ-loop
 loop-again c = count-on (c .before .before .before .before .loop .inv) (search needs) _ (c .before .digit-count .ensures) (c .if1 .left)
@@ -53,13 +32,13 @@ further-fits-spec =
     Inv-loop
     μ-loop
     loop-holds
-    mul-digit-count
-    shared-slice-read-digit-count
-    digit-count-requires
+    (λ c. search needs)
+    (λ c. search needs)
+    (λ c κs. search needs)
     returns
-    sub-left
-    sub-left-2
-    add-i
-    loop-less
+    (λ c. search needs)
+    (λ c. omega arith)
+    (λ c. search needs)
+    (λ c. omega arith)
     loop-again
     returns-2)

@@ -27,12 +27,6 @@ returns-4 c = let a = c .before .before .before .before .before .args in
     let two : length (lineText (a .numbers .now)) ≡ 2 = rw (no-numbers (a .numbers .now) (c .if4 .taken)) refl in
     sym (le-leb (a .at + length (lineText (a .numbers .now))) (a .size) (omega arith))
 
-sub-further-fits : tie.Need-sub-further-fits
-sub-further-fits c = search needs
-
-further-fits-requires : tie.Need-further-fits-requires
-further-fits-requires c κs = search needs
-
 returns-5 : tie.Need-returns-5
 returns-5 c = let a = c .before .before .before .before .before .before .args in
     let one-more = some-numbers (a .numbers .now) (c .before .if4 .left) in
@@ -47,6 +41,6 @@ line-fits-spec =
     returns-2
     returns-3
     returns-4
-    sub-further-fits
-    further-fits-requires
+    (λ c. search needs)
+    (λ c κs. search needs)
     returns-5)

@@ -15,11 +15,9 @@ slice-write-buffer c = let room = rw (ne-eqb (c .before .args .i) 0 (c .if1 .lef
 add-result : tie.Need-add-result
 add-result c = let room = rw (ne-eqb (c .before .args .i) 0 (c .if1 .left)) at (c .before .pre) in omega (arith, room)
 
-same-length : tie.Need-same-length
-same-length c = search needs
-
 returns-2 : tie.Need-returns-2
 returns-2 c = rw (ne-eqb (c .before .args .i) 0 (c .if1 .left)) (refl, refl)
 
 pub put-comma-spec : {M : Type 1} → statement M
-put-comma-spec = tie.close (tie.spec returns slice-write-buffer add-result same-length returns-2)
+put-comma-spec =
+    tie.close (tie.spec returns slice-write-buffer add-result (λ c. search needs) returns-2)

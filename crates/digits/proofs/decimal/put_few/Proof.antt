@@ -8,24 +8,15 @@ use Rattle.digits.proofs.Digits.{one-digit, two-digits, three-digits, f
 use Rattle.digits.proofs.decimal.put_few.Statement.{statement}
 use Rattle.digits.proofs.decimal.put_few.Tie as tie
 
-digit-requires : tie.Need-digit-requires
-digit-requires c κs = search needs
-
 slice-write-buffer : tie.Need-slice-write-buffer
 slice-write-buffer c = let a = c .before .before .before .args in
     let is = five-digits (a .number) (c .before .if1 .taken) (c .before .before .before .pre .0) in
     omega (arith, ap length is, c .before .before .before .pre .1)
 
-add-put-four : tie.Need-add-put-four
-add-put-four c = search needs
-
 put-four-requires : tie.Need-put-four-requires
 put-four-requires c κs = let a = c .before .before .before .before .args in
     let is = five-digits (a .number) (c .before .before .if1 .taken) (c .before .before .before .before .pre .0) in
     (omega arith, omega (arith, ap length is, c .before .before .before .before .pre .1, length-set (a .buffer .now) (a .at) (c .before .digit .result)))
-
-add-result : tie.Need-add-result
-add-result c = search needs
 
 same-length : tie.Need-same-length
 same-length c = c .before .before .put-four .kept .1 .0 ∙ length-set (c .before .before .before .before .before .before .before .args .buffer .now) (c .before .before .before .before .before .before .before .args .at) (c .before .before .before .before .digit .result)
@@ -35,17 +26,8 @@ returns c = let a = c .before .before .before .before .before .before .before .a
     let is = five-digits (a .number) (c .before .before .before .before .before .if1 .taken) (c .before .before .before .before .before .before .before .pre .0) in
     rw is (refl, c .before .before .put-four .ensures ∙ rw (add-one, c .before .before .before .before .digit .ensures))
 
-digit-requires-2 : tie.Need-digit-requires-2
-digit-requires-2 c κs = search needs
-
 slice-write-buffer-2 : tie.Need-slice-write-buffer-2
 slice-write-buffer-2 c = omega (arith, some-digit (c .before .before .before .before .args .number), c .before .before .before .before .pre .1)
-
-add-result-2 : tie.Need-add-result-2
-add-result-2 c = search needs
-
-same-length-2 : tie.Need-same-length-2
-same-length-2 c = search needs
 
 returns-2 : tie.Need-returns-2
 returns-2 c = let a = c .before .before .before .before .args in
@@ -56,35 +38,20 @@ put-two-requires c κs = let a = c .before .before .before .before .before .args
     let is = two-digits (a .number) (c .before .before .if2 .left) (c .before .if3 .taken) in
     (c .before .if3 .taken, omega (arith, ap length is, c .before .before .before .before .before .pre .1))
 
-add-result-3 : tie.Need-add-result-3
-add-result-3 c = search needs
-
-same-length-3 : tie.Need-same-length-3
-same-length-3 c = search needs
-
 returns-3 : tie.Need-returns-3
 returns-3 c = let a = c .before .before .before .before .before .before .before .before .args in
     let is = two-digits (a .number) (c .before .before .before .before .before .if2 .left) (c .before .before .before .before .if3 .taken) in
     rw is (refl, c .before .before .put-two .ensures)
-
-digit-requires-3 : tie.Need-digit-requires-3
-digit-requires-3 c κs = search needs
 
 slice-write-buffer-3 : tie.Need-slice-write-buffer-3
 slice-write-buffer-3 c = let a = c .before .before .before .before .before .before .args in
     let is = three-digits (a .number) (c .before .before .if3 .left) (c .before .if4 .taken) in
     omega (arith, ap length is, c .before .before .before .before .before .before .pre .1)
 
-add-put-two : tie.Need-add-put-two
-add-put-two c = search needs
-
 put-two-requires-2 : tie.Need-put-two-requires-2
 put-two-requires-2 c κs = let a = c .before .before .before .before .before .before .before .args in
     let is = three-digits (a .number) (c .before .before .before .if3 .left) (c .before .before .if4 .taken) in
     (omega arith, omega (arith, ap length is, c .before .before .before .before .before .before .before .pre .1, length-set (a .buffer .now) (a .at) (c .before .digit3 .result)))
-
-add-result-4 : tie.Need-add-result-4
-add-result-4 c = search needs
 
 same-length-4 : tie.Need-same-length-4
 same-length-4 c = c .before .before .put-two2 .kept .1 .0 ∙ length-set (c .before .before .before .before .before .before .before .before .before .before .args .buffer .now) (c .before .before .before .before .before .before .before .before .before .before .args .at) (c .before .before .before .before .digit3 .result)
@@ -99,12 +66,6 @@ put-four-requires-2 c κs = let a = c .before .before .before .before .before .b
     let is = four-digits (a .number) (c .before .if4 .left) (c .before .before .before .before .if1 .left) in
     (c .before .before .before .before .if1 .left, omega (arith, ap length is, c .before .before .before .before .before .before .pre .1))
 
-add-result-5 : tie.Need-add-result-5
-add-result-5 c = search needs
-
-same-length-5 : tie.Need-same-length-5
-same-length-5 c = search needs
-
 returns-5 : tie.Need-returns-5
 returns-5 c = let a = c .before .before .before .before .before .before .before .before .before .args in
     let is = four-digits (a .number) (c .before .before .before .before .if4 .left) (c .before .before .before .before .before .before .before .if1 .left) in
@@ -114,30 +75,30 @@ pub put-few-spec : {M : Type 1} → statement M
 put-few-spec =
     tie.close
     (tie.spec
-    digit-requires
+    (λ c κs. search needs)
     slice-write-buffer
-    add-put-four
+    (λ c. search needs)
     put-four-requires
-    add-result
+    (λ c. search needs)
     same-length
     returns
-    digit-requires-2
+    (λ c κs. search needs)
     slice-write-buffer-2
-    add-result-2
-    same-length-2
+    (λ c. search needs)
+    (λ c. search needs)
     returns-2
     put-two-requires
-    add-result-3
-    same-length-3
+    (λ c. search needs)
+    (λ c. search needs)
     returns-3
-    digit-requires-3
+    (λ c κs. search needs)
     slice-write-buffer-3
-    add-put-two
+    (λ c. search needs)
     put-two-requires-2
-    add-result-4
+    (λ c. search needs)
     same-length-4
     returns-4
     put-four-requires-2
-    add-result-5
-    same-length-5
+    (λ c. search needs)
+    (λ c. search needs)
     returns-5)

@@ -17,20 +17,8 @@ abbrev μ-loop : tie.MeasureT-loop
 loop-holds : tie.Need-loop-holds Inv-loop μ-loop
 loop-holds c = line-begins (c .before .before .args .numbers .now) (c .before .before .args .buffer .now) (c .before .before .args .at) (c .before .before .pre)
 
-mul-put-separated : tie.Need-mul-put-separated Inv-loop μ-loop
-mul-put-separated c = search needs
-
-shared-slice-read-put-separated : tie.Need-shared-slice-read-put-separated Inv-loop μ-loop
-shared-slice-read-put-separated c = search needs
-
 put-separated-requires : tie.Need-put-separated-requires Inv-loop μ-loop
 put-separated-requires c κs = next-fits (c .before .before .before .loop .inv) (search needs)
-
-add-i : tie.Need-add-i Inv-loop μ-loop
-add-i c = search needs
-
-loop-less : tie.Need-loop-less Inv-loop μ-loop
-loop-less c = omega arith
 
 loop-again : tie.Need-loop-again Inv-loop μ-loop
 loop-again c = next-put (c .before .before .before .before .before .before .loop .inv) (search needs) (c .before .before .put-separated .ensures .0) (c .before .before .put-separated .ensures .1) (c .before .before .put-separated .kept .1 .1 .0)
@@ -51,11 +39,11 @@ put-line-spec =
     Inv-loop
     μ-loop
     loop-holds
-    mul-put-separated
-    shared-slice-read-put-separated
+    (λ c. search needs)
+    (λ c. search needs)
     put-separated-requires
-    add-i
-    loop-less
+    (λ c. search needs)
+    (λ c. omega arith)
     loop-again
     put-end-requires
     same-length

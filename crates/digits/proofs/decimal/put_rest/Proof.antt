@@ -6,30 +6,6 @@ use Rattle.digits.proofs.Lines.{rest-begins, further-put, rest-ends}
 use Rattle.digits.proofs.decimal.put_rest.Statement.{statement}
 use Rattle.digits.proofs.decimal.put_rest.Tie as tie
 
-put-further-requires : tie.Need-put-further-requires
-put-further-requires c κs = search needs
-
-put-further-requires-2 : tie.Need-put-further-requires-2
-put-further-requires-2 c κs = search needs
-
-put-further-requires-3 : tie.Need-put-further-requires-3
-put-further-requires-3 c κs = search needs
-
-put-further-requires-4 : tie.Need-put-further-requires-4
-put-further-requires-4 c κs = search needs
-
-put-further-requires-5 : tie.Need-put-further-requires-5
-put-further-requires-5 c κs = search needs
-
-put-further-requires-6 : tie.Need-put-further-requires-6
-put-further-requires-6 c κs = search needs
-
-put-end-requires : tie.Need-put-end-requires
-put-end-requires c κs = search needs
-
-same-length : tie.Need-same-length
-same-length c = search needs
-
 returns : tie.Need-returns
 returns c = let a = c .before .before .before .before .before .before .before .before .before .before .before .before .before .before .before .before .before .before .before .before .before .before .before .before .before .before .before .before .before .args in
     let at-a = further-put (a .a) (a .b ∷ a .c ∷ a .d ∷ a .e ∷ a .f ∷ []) (rest-begins (a .a ∷ a .b ∷ a .c ∷ a .d ∷ a .e ∷ a .f ∷ []) (a .buffer .now) (a .at)) (c .before .before .before .before .before .before .before .before .before .before .before .before .before .before .before .before .before .before .before .before .before .before .before .before .before .before .put-further .ensures .0) (c .before .before .before .before .before .before .before .before .before .before .before .before .before .before .before .before .before .before .before .before .before .before .before .before .before .before .put-further .ensures .1 .1) in
@@ -45,12 +21,12 @@ pub put-rest-spec : {M : Type 1} → statement M
 put-rest-spec =
     tie.close
     (tie.spec
-    put-further-requires
-    put-further-requires-2
-    put-further-requires-3
-    put-further-requires-4
-    put-further-requires-5
-    put-further-requires-6
-    put-end-requires
-    same-length
+    (λ c κs. search needs)
+    (λ c κs. search needs)
+    (λ c κs. search needs)
+    (λ c κs. search needs)
+    (λ c κs. search needs)
+    (λ c κs. search needs)
+    (λ c κs. search needs)
+    (λ c. search needs)
     returns)

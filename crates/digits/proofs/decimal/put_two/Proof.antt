@@ -8,26 +8,8 @@ use borrow.Author.Needs.{needs}
 use Rattle.digits.proofs.decimal.put_two.Statement.{statement}
 use Rattle.digits.proofs.decimal.put_two.Tie as tie
 
-pair-requires : tie.Need-pair-requires
-pair-requires c κs = search needs
-
-cast-buffer : tie.Need-cast-buffer
-cast-buffer c = search needs
-
-slice-write-buffer : tie.Need-slice-write-buffer
-slice-write-buffer c = search needs
-
-cast-buffer-2 : tie.Need-cast-buffer-2
-cast-buffer-2 c = search needs
-
-add-buffer : tie.Need-add-buffer
-add-buffer c = search needs
-
 slice-write-buffer-2 : tie.Need-slice-write-buffer-2
 slice-write-buffer-2 c = simp length-set (omega arith)
-
-same-length : tie.Need-same-length
-same-length c = search needs
 
 returns : tie.Need-returns
 returns c = let n = c .before .before .args .number in
@@ -39,11 +21,11 @@ pub put-two-spec : {M : Type 1} → statement M
 put-two-spec =
     tie.close
     (tie.spec
-    pair-requires
-    cast-buffer
-    slice-write-buffer
-    cast-buffer-2
-    add-buffer
+    (λ c κs. search needs)
+    (λ c. search needs)
+    (λ c. search needs)
+    (λ c. search needs)
+    (λ c. search needs)
     slice-write-buffer-2
-    same-length
+    (λ c. search needs)
     returns)

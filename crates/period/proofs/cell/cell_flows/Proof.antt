@@ -1,57 +1,44 @@
 -- `period::cell::cell_flows` meets its contract. Assumes nothing.
+use Prim.Native.Nat.{_≤_}
 use native.Mathlib.Omega.{arith}
 use borrow.Author.Needs.{needs}
 use Rattle.period.proofs.Fair.{sends-what-it-has, leaves-what-it-has}
-use Rattle.period.specs.Cell.{flowsUpTo}
+use Rattle.period.specs.Cell.{M, flowsUpTo}
 use Rattle.period.proofs.cell.cell_flows.Statement.{statement}
 use Rattle.period.proofs.cell.cell_flows.Tie as tie
 
-sent-on-requires : tie.Need-sent-on-requires
-sent-on-requires c κs = search needs
+-- M is in the cell, and so is f
+has : (c : tie.After-sent-on) → M (c .before .args .row) (c .before .args .n) (c .before .args .o) ≤ c .before .args .n
+has c = sends-what-it-has (c .before .args .row) (c .before .args .n) (c .before .args .o) (c .before .pre .0)
 
-cast-least : tie.Need-cast-least
-cast-least c = search needs
-
-least-requires : tie.Need-least-requires
-least-requires c κs = search needs
-
-least-requires-2 : tie.Need-least-requires-2
-least-requires-2 c κs = search needs
+sends : (c : tie.After-least2) → c .least2 .result ≤ c .before .before .before .before .args .n
+sends c = omega (arith, has (c .before .before .before))
 
 off-flow-requires : tie.Need-off-flow-requires
-off-flow-requires c κs = omega (arith, sends-what-it-has (c .before .before .before .before .args .row) (c .before .before .before .before .args .n) (c .before .before .before .before .args .o) (c .before .before .before .before .pre .0))
-
-on-flow-requires : tie.Need-on-flow-requires
-on-flow-requires c κs = search needs
-
-cast-t13 : tie.Need-cast-t13
-cast-t13 c = search needs
+off-flow-requires c κs = omega (arith, has (c .before .before .before))
 
 cast-t14 : tie.Need-cast-t14
-cast-t14 c = omega (arith, sends-what-it-has (c .before .before .before .before .before .before .args .row) (c .before .before .before .before .before .before .args .n) (c .before .before .before .before .before .before .args .o) (c .before .before .before .before .before .before .pre .0), leaves-what-it-has (c .before .before .before .before .before .before .args .row) (c .before .before .before .before .before .before .args .n) (c .before .before .before .before .before .before .args .o) (c .before .before .least2 .result) (omega (arith, sends-what-it-has (c .before .before .before .before .before .before .args .row) (c .before .before .before .before .before .before .args .n) (c .before .before .before .before .before .before .args .o) (c .before .before .before .before .before .before .pre .0))))
-
-cast-t15 : tie.Need-cast-t15
-cast-t15 c = search needs
-
-mode-requires : tie.Need-mode-requires
-mode-requires c κs = search needs
+cast-t14 c =
+    let start = c .before .before .before .before .before .before in
+    omega (arith, leaves-what-it-has (start .args .row) (start .args .n) (start .args .o) _ (sends (c .before .before)))
 
 returns : tie.Need-returns
 unfolding flowsUpTo
-returns c = cc
+returns c =
+    rw (c .mode .ensures, c .before .on-flow .ensures, c .before .before .off-flow .ensures, c .before .before .before .least2 .ensures, c .before .before .before .before .least .ensures, c .before .before .before .before .before .before .sent-on .ensures)
 
 pub cell-flows-spec : {M : Type 1} → statement M
 cell-flows-spec =
     tie.close
     (tie.spec
-    sent-on-requires
-    cast-least
-    least-requires
-    least-requires-2
+    (λ c κs. search needs)
+    (λ c. search needs)
+    (λ c κs. search needs)
+    (λ c κs. search needs)
     off-flow-requires
-    on-flow-requires
-    cast-t13
+    (λ c κs. search needs)
+    (λ c. search needs)
     cast-t14
-    cast-t15
-    mode-requires
+    (λ c. search needs)
+    (λ c κs. search needs)
     returns)

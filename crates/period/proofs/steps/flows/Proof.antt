@@ -1,9 +1,10 @@
 -- `period::steps::flows` meets its contract. Assumes nothing.
-use Prim.Native.Nat.{_-_}
+use Prim.Native.Nat.{ℕ, _-_, _≤_, _<_}
 use mathlib.Core.Path.{_≡_}
 use native.Mathlib.Omega.{arith}
+use borrow.Author.Count.{falls-down}
 use borrow.Author.Needs.{needs}
-use Rattle.corridor.specs.Layout.{cells}
+use Rattle.layout.specs.Layout.{cells}
 use Rattle.period.proofs.Facts.{Facts, facts, cell-fits}
 use Rattle.period.proofs.Filling.{FlowsFrom, begins, goes-on, ends}
 use Rattle.period.proofs.steps.flows.Statement.{statement}
@@ -16,78 +17,46 @@ Inv-loop table state demand sheet₀ n ahead₀ i₀ sheet ahead i =
 abbrev μ-loop : tie.MeasureT-loop
 μ-loop table state demand sheet₀ n ahead₀ i₀ sheet ahead i = i
 
-cells-requires : tie.Need-cells-requires Inv-loop μ-loop
-cells-requires c κs = search needs
+below : (i n : ℕ) → i ≤ n → 0 < i → i - 1 < n
+below i n reaches some = omega arith
+
+-- the cell that a turn works on is one of the table's
+inside : (c : tie.In-loop Inv-loop μ-loop) → c .before .loop .i - 1 < cells (c .before .before .before .before .before .before .before .args .table .now)
+inside c = below _ _ (c .before .loop .inv .2 .reaches) (c .loop-test .taken)
 
 loop-holds : tie.Need-loop-holds Inv-loop μ-loop
 loop-holds c =
     let lists = c .before .before .before .before .before .args in
     (c .cells .ensures, facts _ _ _ (c .before .before .before .before .before .pre .0), rw (c .cells .ensures) (begins (lists .table .now) (lists .state .now) (lists .demand .now) (lists .sheet .now) (c .before .before .before .before .before .pre .1)))
 
-sub-i : tie.Need-sub-i Inv-loop μ-loop
-sub-i c = search needs
-
 row-at-requires : tie.Need-row-at-requires Inv-loop μ-loop
-row-at-requires c κs = search needs
-
-count-at-requires : tie.Need-count-at-requires Inv-loop μ-loop
-count-at-requires c κs = search needs
-
-queue-at-requires : tie.Need-queue-at-requires Inv-loop μ-loop
-queue-at-requires c κs = search needs
-
-on-demand-at-requires : tie.Need-on-demand-at-requires Inv-loop μ-loop
-on-demand-at-requires c κs = search needs
-
-off-demand-at-requires : tie.Need-off-demand-at-requires Inv-loop μ-loop
-off-demand-at-requires c κs = search needs
+row-at-requires c κs = inside c
 
 cell-flows-requires : tie.Need-cell-flows-requires Inv-loop μ-loop
-cell-flows-requires c κs = rw (c .before .before .before .before .row-at .ensures, c .before .before .before .count-at .ensures) (cell-fits _ _ _ (c .before .before .before .before .before .before .loop .inv .1) _ (omega arith))
-
-put-flows-requires : tie.Need-put-flows-requires Inv-loop μ-loop
-put-flows-requires c κs = search needs
+cell-flows-requires c κs =
+    let turn = c .before .before .before .before .before in
+    rw (c .before .before .before .before .row-at .ensures, c .before .before .before .count-at .ensures) (cell-fits _ _ _ (turn .before .loop .inv .1) _ (inside turn))
 
 room-requires : tie.Need-room-requires Inv-loop μ-loop
-room-requires c κs = rw (c .before .before .before .before .before .before .before .before .before .row-at .ensures, c .before .before .before .before .before .before .before .before .count-at .ensures) (cell-fits _ _ _ (c .before .before .before .before .before .before .before .before .before .before .before .loop .inv .1) (c .before .before .before .before .before .before .before .before .before .before .before .loop .i - 1) (omega arith) .2)
+room-requires c κs =
+    let turn = c .before .before .before .before .before .before .before .before .before .before in
+    rw (c .before .before .before .before .before .before .before .before .before .row-at .ensures, c .before .before .before .before .before .before .before .before .count-at .ensures) (cell-fits _ _ _ (turn .before .loop .inv .1) _ (inside turn) .2)
 
 loop-less : tie.Need-loop-less Inv-loop μ-loop
-loop-less c = search needs
+loop-less c = falls-down _ (c .before .before .before .before .before .before .before .before .before .before .before .loop-test .taken)
 
 loop-again : tie.Need-loop-again Inv-loop μ-loop
 loop-again c =
-    let inv = c .before .before .before .before .before .before .before .before .before .before .before .before .loop .inv in
-    (inv .0, inv .1, goes-on _ _ _ (inv .2) (search needs) (inv .1 .t) (inv .0) (c .before .before .before .before .before .before .before .before .before .before .row-at .ensures) (c .before .before .before .before .before .before .before .before .before .count-at .ensures) (c .before .before .before .before .before .before .before .before .queue-at .ensures) (c .before .before .before .before .before .before .before .on-demand-at .ensures) (c .before .before .before .before .before .before .off-demand-at .ensures) (c .before .before .before .before .before .cell-flows .ensures) (c .before .before .before .put-flows .ensures) (c .room .ensures))
-
-entry-queue-requires : tie.Need-entry-queue-requires Inv-loop μ-loop
-entry-queue-requires c κs = search needs
-
-cast-offer : tie.Need-cast-offer Inv-loop μ-loop
-cast-offer c = search needs
-
-entry-demand-requires : tie.Need-entry-demand-requires Inv-loop μ-loop
-entry-demand-requires c κs = search needs
-
-cast-offer-2 : tie.Need-cast-offer-2 Inv-loop μ-loop
-cast-offer-2 c = search needs
-
-add-offer : tie.Need-add-offer Inv-loop μ-loop
-add-offer c = search needs
-
-least-requires : tie.Need-least-requires Inv-loop μ-loop
-least-requires c κs = search needs
-
-cast-put-entry-flow : tie.Need-cast-put-entry-flow Inv-loop μ-loop
-cast-put-entry-flow c = search needs
-
-put-entry-flow-requires : tie.Need-put-entry-flow-requires Inv-loop μ-loop
-put-entry-flow-requires c κs = search needs
-
-same-length : tie.Need-same-length Inv-loop μ-loop
-same-length c = search needs
+    let turn = c .before .before .before .before .before .before .before .before .before .before .before in
+    let inv = turn .before .loop .inv in
+    let reads = c .before .before .before .before .before .before in
+    (inv .0, inv .1, goes-on _ _ _ (inv .2) (turn .loop-test .taken) (inv .1 .t) (inv .0) (reads .before .before .before .before .row-at .ensures) (reads .before .before .before .count-at .ensures) (reads .before .before .queue-at .ensures) (reads .before .on-demand-at .ensures) (reads .off-demand-at .ensures) (c .before .before .before .before .before .cell-flows .ensures) (c .before .before .before .put-flows .ensures) (c .room .ensures))
 
 returns : tie.Need-returns Inv-loop μ-loop
-returns c = ends _ _ _ (c .before .before .before .before .before .before .before .before .loop .inv .2) (search needs) (c .before .before .before .before .before .before .before .before .loop .inv .1 .d) (c .before .before .before .before .before .before .entry-queue .ensures) (c .before .before .before .before .before .entry-demand .ensures) (c .before .before .before .least .ensures) (c .before .before .put-entry-flow .ensures)
+returns c =
+    let end = c .before .before .before .before .before .before .before in
+    let inv = end .before .loop .inv in
+    ends _ _ _ (inv .2) (end .loop-test .left) (inv .1 .d) (c .before .before .before .before .before .before .entry-queue .ensures) (c .before .before .before .before .before .entry-demand .ensures) (c .before .before .before .least .ensures) (c .before .before .put-entry-flow .ensures)
 
 pub flows-spec : {M : Type 1} → statement M
 flows-spec =
@@ -95,26 +64,26 @@ flows-spec =
     (tie.spec
     Inv-loop
     μ-loop
-    cells-requires
+    (λ c κs. search needs)
     loop-holds
-    sub-i
+    (λ c. search needs)
     row-at-requires
-    count-at-requires
-    queue-at-requires
-    on-demand-at-requires
-    off-demand-at-requires
+    (λ c κs. search needs)
+    (λ c κs. search needs)
+    (λ c κs. search needs)
+    (λ c κs. search needs)
     cell-flows-requires
-    put-flows-requires
+    (λ c κs. search needs)
     room-requires
     loop-less
     loop-again
-    entry-queue-requires
-    cast-offer
-    entry-demand-requires
-    cast-offer-2
-    add-offer
-    least-requires
-    cast-put-entry-flow
-    put-entry-flow-requires
-    same-length
+    (λ c κs. search needs)
+    (λ c. search needs)
+    (λ c κs. search needs)
+    (λ c. search needs)
+    (λ c. search needs)
+    (λ c κs. search needs)
+    (λ c. search needs)
+    (λ c κs. search needs)
+    (λ c. search needs)
     returns)

@@ -5,7 +5,7 @@ use native.Mathlib.Omega.{arith}
 use borrow.Author.Needs.{needs}
 use Rattle.whole.proofs.Search.{Searching, begins, goes-on, found, not-found}
 use Rattle.whole.proofs.Sums.{sum-grows, sum-more}
-use Rattle.corridor.specs.Layout.{cells}
+use Rattle.layout.specs.Layout.{cells}
 use Rattle.recut.specs.Pieces.{pieceCount, firstPiece}
 use Rattle.recut.specs.Recut.{cellsAreCut}
 use Rattle.recut.proofs.pieces.cells_are_cut.Statement.{statement}
@@ -17,9 +17,6 @@ Inv-loop old pieces new n first₀ i₀ first i = Searching (cellsAreCut old pie
 abbrev μ-loop : tie.MeasureT-loop
 μ-loop old pieces new n first₀ i₀ first i = n - i
 
-cells-requires : tie.Need-cells-requires Inv-loop μ-loop
-cells-requires c κs = search needs
-
 loop-holds : tie.Need-loop-holds Inv-loop μ-loop
 loop-holds c = (begins _ (c .cells .ensures), refl)
 
@@ -29,23 +26,11 @@ cell-is-cut-requires c κs = ((search needs, search needs, c .before .loop .inv 
 returns : tie.Need-returns Inv-loop μ-loop
 returns c = found (c .before .before .before .loop .inv .0) (search needs) (c .before .cell-is-cut .ensures) (c .if1 .taken)
 
-mul-first : tie.Need-mul-first Inv-loop μ-loop
-mul-first c = search needs
-
-shared-slice-read-first : tie.Need-shared-slice-read-first Inv-loop μ-loop
-shared-slice-read-first c = search needs
-
 cast-first : tie.Need-cast-first Inv-loop μ-loop
 cast-first c = omega (arith, c .shared-slice-known4 .given (c .before .before .before .before .loop .i))
 
 add-first : tie.Need-add-first Inv-loop μ-loop
 add-first c = omega (arith, sum-grows (suc (c .before .before .before .before .loop .i)) (cells (c .before .before .before .before .before .before .before .before .before .args .old .now)) (pieceCount (c .before .before .before .before .before .before .before .before .before .args .pieces .now)) (omega arith))
-
-add-i : tie.Need-add-i Inv-loop μ-loop
-add-i c = search needs
-
-loop-less : tie.Need-loop-less Inv-loop μ-loop
-loop-less c = search needs
 
 loop-again : tie.Need-loop-again Inv-loop μ-loop
 loop-again c = (goes-on (c .before .before .before .before .loop .inv .0) (search needs) (c .before .before .cell-is-cut .ensures) (c .before .if1 .left), sum-more (c .before .before .before .before .loop .i) _ (c .before .before .before .before .loop .inv .1) refl)
@@ -59,15 +44,15 @@ cells-are-cut-spec =
     (tie.spec
     Inv-loop
     μ-loop
-    cells-requires
+    (λ c κs. search needs)
     loop-holds
     cell-is-cut-requires
     returns
-    mul-first
-    shared-slice-read-first
+    (λ c. search needs)
+    (λ c. search needs)
     cast-first
     add-first
-    add-i
-    loop-less
+    (λ c. search needs)
+    (λ c. search needs)
     loop-again
     returns-2)

@@ -4,7 +4,7 @@ use mathlib.Core.Path.{_≡_, refl, ap, _∙_}
 use native.Mathlib.Omega.{arith}
 use borrow.Author.Needs.{needs}
 use Rattle.whole.proofs.Sums.{sum-more}
-use Rattle.corridor.specs.Layout.{rowAt}
+use Rattle.layout.specs.Layout.{rowAt}
 use Rattle.recut.specs.Pieces.{jamBefore}
 use Rattle.recut.proofs.pieces.jams.Statement.{statement}
 use Rattle.recut.proofs.pieces.jams.Tie as tie
@@ -18,24 +18,6 @@ abbrev μ-loop : tie.MeasureT-loop
 loop-holds : tie.Need-loop-holds Inv-loop μ-loop
 unfolding jamBefore
 loop-holds c = (search needs, refl, search needs)
-
-add-row-at : tie.Need-add-row-at Inv-loop μ-loop
-add-row-at c = search needs
-
-row-at-requires : tie.Need-row-at-requires Inv-loop μ-loop
-row-at-requires c κs = search needs
-
-cast-sum : tie.Need-cast-sum Inv-loop μ-loop
-cast-sum c = search needs
-
-add-sum : tie.Need-add-sum Inv-loop μ-loop
-add-sum c = search needs
-
-add-k : tie.Need-add-k Inv-loop μ-loop
-add-k c = search needs
-
-loop-less : tie.Need-loop-less Inv-loop μ-loop
-loop-less c = search needs
 
 loop-again : tie.Need-loop-again Inv-loop μ-loop
 unfolding jamBefore
@@ -53,11 +35,11 @@ jams-spec =
     Inv-loop
     μ-loop
     loop-holds
-    add-row-at
-    row-at-requires
-    cast-sum
-    add-sum
-    add-k
-    loop-less
+    (λ c. search needs)
+    (λ c κs. search needs)
+    (λ c. search needs)
+    (λ c. search needs)
+    (λ c. search needs)
+    (λ c. search needs)
     loop-again
     returns)

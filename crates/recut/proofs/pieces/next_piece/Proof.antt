@@ -7,26 +7,8 @@ use Rattle.recut.specs.Pieces.{pieceCount}
 use Rattle.recut.proofs.pieces.next_piece.Statement.{statement}
 use Rattle.recut.proofs.pieces.next_piece.Tie as tie
 
-add-if1 : tie.Need-add-if1
-add-if1 c = search needs
-
-mul-if1 : tie.Need-mul-if1
-mul-if1 c = search needs
-
-shared-slice-read-if1 : tie.Need-shared-slice-read-if1
-shared-slice-read-if1 c = search needs
-
 cast-if1 : tie.Need-cast-if1
 cast-if1 c = omega (arith, c .shared-slice-known .given (c .before .before .args .piece .cell))
-
-add-t12 : tie.Need-add-t12
-add-t12 c = search needs
-
-add-t14 : tie.Need-add-t14
-add-t14 c = search needs
-
-add-t15 : tie.Need-add-t15
-add-t15 c = search needs
 
 returns : tie.Need-returns
 returns c = simp (lt-ltb (c .before .before .before .before .before .args .piece .number + 1) (pieceCount (c .before .before .before .before .before .args .pieces .now) (c .before .before .before .before .before .args .piece .cell)) (omega arith))
@@ -38,12 +20,12 @@ pub next-piece-spec : {M : Type 1} → statement M
 next-piece-spec =
     tie.close
     (tie.spec
-    add-if1
-    mul-if1
-    shared-slice-read-if1
+    (λ c. search needs)
+    (λ c. search needs)
+    (λ c. search needs)
     cast-if1
-    add-t12
-    add-t14
-    add-t15
+    (λ c. search needs)
+    (λ c. search needs)
+    (λ c. search needs)
     returns
     returns-2)

@@ -3,7 +3,7 @@ use Prim.Native.Nat.{_-_, _+_}
 use mathlib.Core.Path.{refl, ap, _∙_}
 use borrow.Author.Needs.{needs}
 use Rattle.whole.proofs.Search.{every-found, every-ends, Searching, begins, goes-on}
-use Rattle.corridor.specs.Layout.{rowAt}
+use Rattle.layout.specs.Layout.{rowAt}
 use Rattle.recut.specs.Pieces.{noOtherRamp}
 use Rattle.recut.proofs.pieces.no_other_ramps.Statement.{statement}
 use Rattle.recut.proofs.pieces.no_other_ramps.Tie as tie
@@ -17,23 +17,8 @@ abbrev μ-loop : tie.MeasureT-loop
 loop-holds : tie.Need-loop-holds Inv-loop μ-loop
 loop-holds c = begins _ refl
 
-add-row-at : tie.Need-add-row-at Inv-loop μ-loop
-add-row-at c = search needs
-
-row-at-requires : tie.Need-row-at-requires Inv-loop μ-loop
-row-at-requires c κs = search needs
-
-no-other-ramp-requires : tie.Need-no-other-ramp-requires Inv-loop μ-loop
-no-other-ramp-requires c κs = search needs
-
 returns : tie.Need-returns Inv-loop μ-loop
 returns c = every-found (c .before .before .before .before .loop .inv) (search needs) (c .before .no-other-ramp .ensures ∙ ap (noOtherRamp (c .before .before .before .before .before .before .args .count) (c .before .before .before .before .loop .k)) (c .before .before .row-at .ensures)) (c .if1 .taken)
-
-add-k : tie.Need-add-k Inv-loop μ-loop
-add-k c = search needs
-
-loop-less : tie.Need-loop-less Inv-loop μ-loop
-loop-less c = search needs
 
 loop-again : tie.Need-loop-again Inv-loop μ-loop
 loop-again c = goes-on (c .before .before .before .before .loop .inv) (search needs) (c .before .no-other-ramp .ensures ∙ ap (noOtherRamp (c .before .before .before .before .before .before .args .count) (c .before .before .before .before .loop .k)) (c .before .before .row-at .ensures)) (c .if1 .left)
@@ -48,11 +33,11 @@ no-other-ramps-spec =
     Inv-loop
     μ-loop
     loop-holds
-    add-row-at
-    row-at-requires
-    no-other-ramp-requires
+    (λ c. search needs)
+    (λ c κs. search needs)
+    (λ c κs. search needs)
     returns
-    add-k
-    loop-less
+    (λ c. search needs)
+    (λ c. search needs)
     loop-again
     returns-2)

@@ -7,33 +7,6 @@ use Rattle.recut.specs.Pieces.{keepsOnRamp, keepsOffRamp, piecesFit}
 use Rattle.recut.proofs.pieces.pieces_fit.Statement.{statement}
 use Rattle.recut.proofs.pieces.pieces_fit.Tie as tie
 
-jams-requires : tie.Need-jams-requires
-jams-requires c κs = search needs
-
-cast-result : tie.Need-cast-result
-cast-result c = search needs
-
-row-at-requires : tie.Need-row-at-requires
-row-at-requires c κs = search needs
-
-keeps-on-ramp-requires : tie.Need-keeps-on-ramp-requires
-keeps-on-ramp-requires c κs = search needs
-
-sub-row-at : tie.Need-sub-row-at
-sub-row-at c = search needs
-
-add-row-at : tie.Need-add-row-at
-add-row-at c = search needs
-
-row-at-requires-2 : tie.Need-row-at-requires-2
-row-at-requires-2 c κs = search needs
-
-keeps-off-ramp-requires : tie.Need-keeps-off-ramp-requires
-keeps-off-ramp-requires c κs = search needs
-
-no-other-ramps-requires : tie.Need-no-other-ramps-requires
-no-other-ramps-requires c κs = search needs
-
 returns : tie.Need-returns
 unfolding piecesFit
 returns c =
@@ -47,13 +20,13 @@ pub pieces-fit-spec : {M : Type 1} → statement M
 pieces-fit-spec =
     tie.close
     (tie.spec
-    jams-requires
-    cast-result
-    row-at-requires
-    keeps-on-ramp-requires
-    sub-row-at
-    add-row-at
-    row-at-requires-2
-    keeps-off-ramp-requires
-    no-other-ramps-requires
+    (λ c κs. search needs)
+    (λ c. search needs)
+    (λ c κs. search needs)
+    (λ c κs. search needs)
+    (λ c. search needs)
+    (λ c. search needs)
+    (λ c κs. search needs)
+    (λ c κs. search needs)
+    (λ c κs. search needs)
     returns)

@@ -1,25 +1,10 @@
 -- `steps::demand::follow` meets its contract. Assumes nothing.
-use mathlib.Core.Path.{sym, _∙_}
+use mathlib.Core.Path.{refl, sym, _∙_}
 use borrow.Author.Tests.{not-true, not-false}
 use Rattle.steps.proofs.Calls.{unfit-leaves, run-fits-ready, fits-leaves}
 use borrow.Author.Needs.{needs}
 use Rattle.steps.proofs.demand.follow.Statement.{statement}
 use Rattle.steps.proofs.demand.follow.Tie as tie
-
-run-fits-requires : tie.Need-run-fits-requires
-run-fits-requires c κs = search needs
-
-same-length : tie.Need-same-length
-same-length c = search needs
-
-same-length-2 : tie.Need-same-length-2
-same-length-2 c = search needs
-
-same-length-3 : tie.Need-same-length-3
-same-length-3 c = search needs
-
-same-length-4 : tie.Need-same-length-4
-same-length-4 c = search needs
 
 returns : tie.Need-returns
 returns c = unfit-leaves _ _ _ _ _ (sym (c .before .run-fits .ensures) ∙ not-true _ (c .if1 .taken))
@@ -28,16 +13,16 @@ follow-run-requires : tie.Need-follow-run-requires
 follow-run-requires c κs = run-fits-ready _ _ _ _ _ (sym (c .before .before .before .before .before .run-fits .ensures) ∙ not-false _ (c .before .before .before .before .if1 .left))
 
 same-length-5 : tie.Need-same-length-5
-same-length-5 c = search needs
+same-length-5 c = c .before .before .before .before .before .before .before .before .follow-run .kept .1 .1 .1 .1 .0
 
 same-length-6 : tie.Need-same-length-6
-same-length-6 c = search needs
+same-length-6 c = c .before .before .before .before .before .before .before .before .follow-run .kept .1 .1 .1 .1 .1 .0
 
 same-length-7 : tie.Need-same-length-7
-same-length-7 c = search needs
+same-length-7 c = c .before .before .before .before .before .before .before .before .follow-run .kept .1 .1 .1 .1 .1 .1 .0
 
 same-length-8 : tie.Need-same-length-8
-same-length-8 c = search needs
+same-length-8 c = c .before .before .before .before .before .before .before .before .follow-run .kept .1 .1 .1 .1 .1 .1 .1 .0
 
 returns-2 : tie.Need-returns-2
 returns-2 c = fits-leaves _ _ _ _ (sym (c .before .before .before .before .before .before .before .before .before .before .before .before .before .before .run-fits .ensures) ∙ not-false _ (c .before .before .before .before .before .before .before .before .before .before .before .before .before .if1 .left)) (c .before .before .before .before .before .before .before .before .follow-run .ensures)
@@ -46,11 +31,11 @@ pub follow-spec : {M : Type 1} → statement M
 follow-spec =
     tie.close
     (tie.spec
-    run-fits-requires
-    same-length
-    same-length-2
-    same-length-3
-    same-length-4
+    (λ c κs. search needs)
+    (λ c. refl)
+    (λ c. refl)
+    (λ c. refl)
+    (λ c. refl)
     returns
     follow-run-requires
     same-length-5

@@ -18,8 +18,15 @@ abbrev μ-loop : tie.MeasureT-loop
 μ-loop chunk k table state₀ row₀ sheet₀ out₀ n k₀ scan₀ from₀ at₀ state row sheet out k' scan from at =
     length chunk - from
 
-cells-requires : tie.Need-cells-requires Inv-loop μ-loop
-cells-requires c κs = search needs
+-- a turn leaves each list as long as it was at the start
+kept : (c : tie.After-turn Inv-loop μ-loop) →
+    let a = c .before .before .before .before .before .before .before .before .before .before .before .before .before .before .before .before .args in
+    let after = c .turn .last .1 .1 .1 .1 .1 in
+    (length (after .0) ≡ length (a .state .now)) × (length (after .1 .0) ≡ length (a .row .now)) × (length (after .1 .1 .0) ≡ length (a .sheet .now)) × (length (after .1 .1 .1 .0) ≡ length (a .out .now))
+kept c =
+    let same = c .turn .kept .1 .1 .1 .1 .1 in
+    let inv = c .before .before .before .before .before .before .before .before .loop .inv in
+    (same .0 ∙ inv .1, same .1 .0 ∙ inv .2, same .1 .1 .0 ∙ inv .3, same .1 .1 .1 .0 ∙ inv .4)
 
 loop-holds : tie.Need-loop-holds Inv-loop μ-loop
 loop-holds c = (begins _ _ _ _ _ _ _ _ (c .before .before .before .before .before .before .before .pre .0) (c .before .before .before .before .before .before .before .pre .1), refl, refl, refl, refl)
@@ -27,20 +34,17 @@ loop-holds c = (begins _ _ _ _ _ _ _ _ (c .before .before .before .before .befor
 has-room-requires : tie.Need-has-room-requires Inv-loop μ-loop
 has-room-requires c κs = let a = c .before .before .before .before .before .before .before .before .before .args in rw (c .before .before .cells .ensures) (cells-most (a .table .now) (c .before .loop .state) (c .before .loop .inv .0 .ready .fits))
 
-stands-requires : tie.Need-stands-requires Inv-loop μ-loop
-stands-requires c κs = search needs
-
 same-length : tie.Need-same-length Inv-loop μ-loop
-same-length c = omega arith
+same-length c = c .before .before .before .before .loop .inv .1
 
 same-length-2 : tie.Need-same-length-2 Inv-loop μ-loop
-same-length-2 c = omega arith
+same-length-2 c = c .before .before .before .before .loop .inv .2
 
 same-length-3 : tie.Need-same-length-3 Inv-loop μ-loop
-same-length-3 c = omega arith
+same-length-3 c = c .before .before .before .before .loop .inv .3
 
 same-length-4 : tie.Need-same-length-4 Inv-loop μ-loop
-same-length-4 c = omega arith
+same-length-4 c = c .before .before .before .before .loop .inv .4
 
 returns : tie.Need-returns Inv-loop μ-loop
 returns c = rw (c .stands .ensures) (full _ _ _ _ _ _ _ _ (c .before .before .before .before .loop .inv .0) (rw (c .before .before .before .before .before .cells .ensures, c .before .before .before .before .loop .inv .4) at (sym (c .before .before .has-room .ensures) ∙ not-true _ (c .before .if1 .taken))) (c .before .before .before .loop-test .taken))
@@ -48,74 +52,53 @@ returns c = rw (c .stands .ensures) (full _ _ _ _ _ _ _ _ (c .before .before .be
 turn-requires : tie.Need-turn-requires Inv-loop μ-loop
 turn-requires c κs = (c .before .before .before .before .before .before .before .loop .inv .0 .ready, room-after _ _ _ (rw (c .before .before .before .before .before .before .before .before .cells .ensures) at (sym (c .before .before .before .before .before .has-room .ensures) ∙ not-false _ (c .before .before .before .before .if1 .left))))
 
-enum-known-turn : tie.Need-enum-known-turn Inv-loop μ-loop
-enum-known-turn c = search needs
-
-stands-requires-2 : tie.Need-stands-requires-2 Inv-loop μ-loop
-stands-requires-2 c κs = search needs
-
 same-length-5 : tie.Need-same-length-5 Inv-loop μ-loop
-same-length-5 c = omega arith
+same-length-5 c = kept (c .before .before .before .before .before .before .before .before .before .before .before .before) .0
 
 same-length-6 : tie.Need-same-length-6 Inv-loop μ-loop
-same-length-6 c = omega arith
+same-length-6 c = kept (c .before .before .before .before .before .before .before .before .before .before .before .before) .1
 
 same-length-7 : tie.Need-same-length-7 Inv-loop μ-loop
-same-length-7 c = omega arith
+same-length-7 c = kept (c .before .before .before .before .before .before .before .before .before .before .before .before) .2
 
 same-length-8 : tie.Need-same-length-8 Inv-loop μ-loop
-same-length-8 c = omega arith
+same-length-8 c = kept (c .before .before .before .before .before .before .before .before .before .before .before .before) .3
 
 returns-2 : tie.Need-returns-2 Inv-loop μ-loop
 returns-2 c = rw (c .stands2 .ensures) (part-left _ _ _ _ _ _ _ _ (c .before .before .before .before .before .before .before .before .before .before .before .before .before .before .before .before .before .before .before .before .loop .inv .0) (rw (c .before .before .before .before .before .before .before .before .before .before .before .before .before .before .before .before .before .before .before .before .before .cells .ensures, c .before .before .before .before .before .before .before .before .before .before .before .before .before .before .before .before .before .before .before .before .loop .inv .4) at (sym (c .before .before .before .before .before .before .before .before .before .before .before .before .before .before .before .before .before .before .has-room .ensures) ∙ not-false _ (c .before .before .before .before .before .before .before .before .before .before .before .before .before .before .before .before .before .if1 .left))) (c .before .before .before .before .before .before .before .before .before .before .before .before .turn .ensures .0) (omega arith) (c .before .before .before .before .before .before .before .before .before .before .before .before .turn .ensures .1) (c .before .before .turn2 .given .1))
-
-enum-known-turn-2 : tie.Need-enum-known-turn-2 Inv-loop μ-loop
-enum-known-turn-2 c = search needs
-
-begin-requires : tie.Need-begin-requires Inv-loop μ-loop
-begin-requires c κs = search needs
-
-counted-requires : tie.Need-counted-requires Inv-loop μ-loop
-counted-requires c κs = search needs
 
 loop-less : tie.Need-loop-less Inv-loop μ-loop
 loop-less c = let on : c .before .before .before .before .before .before .before .before .before .before .before .before .before .before .before .before .before .before .before .before .before .loop .from < c .before .before .before .turn3 .given .0 .0 = rw (c .before .before .before .turn3 .given .1) at (goes-onward _ _ _ _ _ _ (c .before .before .before .before .before .before .before .before .before .before .before .before .before .turn .ensures .1 .answered)) in omega arith
 
 loop-again : tie.Need-loop-again Inv-loop μ-loop
-loop-again c = let on : c .before .before .before .before .before .before .before .before .before .before .before .before .before .before .before .before .before .before .before .before .before .loop .from < c .before .before .before .turn3 .given .0 .0 = rw (c .before .before .before .turn3 .given .1) at (goes-onward _ _ _ _ _ _ (c .before .before .before .before .before .before .before .before .before .before .before .before .before .turn .ensures .1 .answered)) in (rw (c .before .begin .ensures, c .counted .ensures) (period-followed _ _ _ _ _ _ _ _ (c .before .before .before .before .before .before .before .before .before .before .before .before .before .before .before .before .before .before .before .before .before .loop .inv .0) (rw (c .before .before .before .before .before .before .before .before .before .before .before .before .before .before .before .before .before .before .before .before .before .before .cells .ensures, c .before .before .before .before .before .before .before .before .before .before .before .before .before .before .before .before .before .before .before .before .before .loop .inv .4) at (sym (c .before .before .before .before .before .before .before .before .before .before .before .before .before .before .before .before .before .before .before .has-room .ensures) ∙ not-false _ (c .before .before .before .before .before .before .before .before .before .before .before .before .before .before .before .before .before .before .if1 .left))) (c .before .before .before .before .before .before .before .before .before .before .before .before .before .turn .ensures .0) (omega arith) (c .before .before .before .before .before .before .before .before .before .before .before .before .before .turn .ensures .1) (c .before .before .before .turn3 .given .1) on), omega arith, omega arith, omega arith, omega arith)
-
-enum-known-turn-3 : tie.Need-enum-known-turn-3 Inv-loop μ-loop
-enum-known-turn-3 c = search needs
+loop-again c = let same = kept (c .before .before .before .before .before .before .before .before .before .before .before .before .before) in let on : c .before .before .before .before .before .before .before .before .before .before .before .before .before .before .before .before .before .before .before .before .before .loop .from < c .before .before .before .turn3 .given .0 .0 = rw (c .before .before .before .turn3 .given .1) at (goes-onward _ _ _ _ _ _ (c .before .before .before .before .before .before .before .before .before .before .before .before .before .turn .ensures .1 .answered)) in (rw (c .before .begin .ensures, c .counted .ensures) (period-followed _ _ _ _ _ _ _ _ (c .before .before .before .before .before .before .before .before .before .before .before .before .before .before .before .before .before .before .before .before .before .loop .inv .0) (rw (c .before .before .before .before .before .before .before .before .before .before .before .before .before .before .before .before .before .before .before .before .before .before .cells .ensures, c .before .before .before .before .before .before .before .before .before .before .before .before .before .before .before .before .before .before .before .before .before .loop .inv .4) at (sym (c .before .before .before .before .before .before .before .before .before .before .before .before .before .before .before .before .before .before .before .has-room .ensures) ∙ not-false _ (c .before .before .before .before .before .before .before .before .before .before .before .before .before .before .before .before .before .before .if1 .left))) (c .before .before .before .before .before .before .before .before .before .before .before .before .before .turn .ensures .0) (omega arith) (c .before .before .before .before .before .before .before .before .before .before .before .before .before .turn .ensures .1) (c .before .before .before .turn3 .given .1) on), same .0, same .1, same .2, same .3)
 
 same-length-9 : tie.Need-same-length-9 Inv-loop μ-loop
-same-length-9 c = omega arith
+same-length-9 c = kept (c .before .before .before .before .before .before .before .before .before .before .before) .0
 
 same-length-10 : tie.Need-same-length-10 Inv-loop μ-loop
-same-length-10 c = omega arith
+same-length-10 c = kept (c .before .before .before .before .before .before .before .before .before .before .before) .1
 
 same-length-11 : tie.Need-same-length-11 Inv-loop μ-loop
-same-length-11 c = omega arith
+same-length-11 c = kept (c .before .before .before .before .before .before .before .before .before .before .before) .2
 
 same-length-12 : tie.Need-same-length-12 Inv-loop μ-loop
-same-length-12 c = omega arith
+same-length-12 c = kept (c .before .before .before .before .before .before .before .before .before .before .before) .3
 
 returns-3 : tie.Need-returns-3 Inv-loop μ-loop
 returns-3 c = over-left _ _ _ _ _ _ _ _ (c .before .before .before .before .before .before .before .before .before .before .before .before .before .before .before .before .before .before .before .loop .inv .0) (rw (c .before .before .before .before .before .before .before .before .before .before .before .before .before .before .before .before .before .before .before .before .cells .ensures, c .before .before .before .before .before .before .before .before .before .before .before .before .before .before .before .before .before .before .before .loop .inv .4) at (sym (c .before .before .before .before .before .before .before .before .before .before .before .before .before .before .before .before .before .has-room .ensures) ∙ not-false _ (c .before .before .before .before .before .before .before .before .before .before .before .before .before .before .before .before .if1 .left))) (c .before .before .before .before .before .before .before .before .before .before .before .turn .ensures .0) (omega arith) (c .before .before .before .before .before .before .before .before .before .before .before .turn .ensures .1) (c .before .turn4 .given .1)
 
-stands-requires-3 : tie.Need-stands-requires-3 Inv-loop μ-loop
-stands-requires-3 c κs = search needs
-
 same-length-13 : tie.Need-same-length-13 Inv-loop μ-loop
-same-length-13 c = omega arith
+same-length-13 c = c .before .before .loop .inv .1
 
 same-length-14 : tie.Need-same-length-14 Inv-loop μ-loop
-same-length-14 c = omega arith
+same-length-14 c = c .before .before .loop .inv .2
 
 same-length-15 : tie.Need-same-length-15 Inv-loop μ-loop
-same-length-15 c = omega arith
+same-length-15 c = c .before .before .loop .inv .3
 
 same-length-16 : tie.Need-same-length-16 Inv-loop μ-loop
-same-length-16 c = omega arith
+same-length-16 c = c .before .before .loop .inv .4
 
 returns-4 : tie.Need-returns-4 Inv-loop μ-loop
 returns-4 c = rw (c .stands3 .ensures) (used-up _ _ _ _ _ _ _ _ (c .before .before .loop .inv .0) (c .before .loop-test .left))
@@ -126,35 +109,35 @@ follow-run-spec =
     (tie.spec
     Inv-loop
     μ-loop
-    cells-requires
+    (λ c κs. search needs)
     loop-holds
     has-room-requires
-    stands-requires
+    (λ c κs. search needs)
     same-length
     same-length-2
     same-length-3
     same-length-4
     returns
     turn-requires
-    enum-known-turn
-    stands-requires-2
+    (λ c. search needs)
+    (λ c κs. search needs)
     same-length-5
     same-length-6
     same-length-7
     same-length-8
     returns-2
-    enum-known-turn-2
-    begin-requires
-    counted-requires
+    (λ c. search needs)
+    (λ c κs. search needs)
+    (λ c κs. search needs)
     loop-less
     loop-again
-    enum-known-turn-3
+    (λ c. search needs)
     same-length-9
     same-length-10
     same-length-11
     same-length-12
     returns-3
-    stands-requires-3
+    (λ c κs. search needs)
     same-length-13
     same-length-14
     same-length-15

@@ -5,32 +5,8 @@ use borrow.Author.Needs.{needs}
 use Rattle.steps.proofs.demand.run_fits.Statement.{statement}
 use Rattle.steps.proofs.demand.run_fits.Tie as tie
 
-accept-state-requires : tie.Need-accept-state-requires
-accept-state-requires c κs = search needs
-
-cells-requires : tie.Need-cells-requires
-cells-requires c κs = search needs
-
-enum-told : tie.Need-enum-told
-enum-told c = search needs
-
-mul-result : tie.Need-mul-result
-mul-result c = search needs
-
-add-result : tie.Need-add-result
-add-result c = search needs
-
-mul-result-2 : tie.Need-mul-result-2
-mul-result-2 c = search needs
-
-add-result-2 : tie.Need-add-result-2
-add-result-2 c = search needs
-
 has-room-requires : tie.Need-has-room-requires
 has-room-requires c κs = let a = c .before .before .before .before .before .before .before .before .before .args in rw (c .before .before .cells .ensures) (accepted-cells (a .table .now) (a .state .now) (sym (c .before .before .before .accept-state .ensures) ∙ c .enum-told .given .1))
-
-enum-told-2 : tie.Need-enum-told-2
-enum-told-2 c = search needs
 
 returns : tie.Need-returns
 returns c = accepted-run-fits _ _ _ _ _ (sym (c .before .before .before .before .accept-state .ensures) ∙ c .before .enum-told .given .1) (c .before .before .before .cells .ensures) (c .has-room .ensures)
@@ -42,14 +18,14 @@ pub run-fits-spec : {M : Type 1} → statement M
 run-fits-spec =
     tie.close
     (tie.spec
-    accept-state-requires
-    cells-requires
-    enum-told
-    mul-result
-    add-result
-    mul-result-2
-    add-result-2
+    (λ c κs. search needs)
+    (λ c κs. search needs)
+    (λ c. search needs)
+    (λ c. search needs)
+    (λ c. search needs)
+    (λ c. search needs)
+    (λ c. search needs)
     has-room-requires
-    enum-told-2
+    (λ c. search needs)
     returns
     returns-2)

@@ -21,12 +21,6 @@ loop-holds c = (λ k is. none-written _ _ _ _ _ _ (search needs), search needs, 
 put-cell-requires : tie.Need-put-cell-requires Inv-loop μ-loop
 put-cell-requires c κs = (search needs, search needs, search needs, search needs, search needs, omega arith)
 
-add-i : tie.Need-add-i Inv-loop μ-loop
-add-i c = search needs
-
-loop-less : tie.Need-loop-less Inv-loop μ-loop
-loop-less c = omega arith
-
 loop-again : tie.Need-loop-again Inv-loop μ-loop
 loop-again c = let inv = c .before .before .before .before .before .loop .inv in
     let put = c .before .before .put-cell .ensures in
@@ -47,8 +41,8 @@ put-cells-spec =
     μ-loop
     loop-holds
     put-cell-requires
-    add-i
-    loop-less
+    (λ c. search needs)
+    (λ c. omega arith)
     loop-again
     same-length
     returns)

@@ -8,14 +8,8 @@ use Rattle.steps.proofs.lines.stop_line.Tie as tie
 returns : tie.Need-returns
 returns c = no-line _ _ (c .if1 .taken)
 
-put-stop-requires : tie.Need-put-stop-requires
-put-stop-requires c κs = search needs
-
-same-length : tie.Need-same-length
-same-length c = search needs
-
 returns-2 : tie.Need-returns-2
 returns-2 c = line-put _ _ (c .before .before .before .before .if1 .left) (omega (arith, c .before .before .put-stop .ensures .0)) (c .before .before .put-stop .ensures .1)
 
 pub stop-line-spec : {M : Type 1} → statement M
-stop-line-spec = tie.close (tie.spec returns put-stop-requires same-length returns-2)
+stop-line-spec = tie.close (tie.spec returns (λ c κs. search needs) (λ c. search needs) returns-2)

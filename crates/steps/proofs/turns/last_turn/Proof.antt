@@ -7,55 +7,37 @@ use Rattle.steps.proofs.Turning.{nothing-written, break-stops}
 use Rattle.steps.proofs.turns.last_turn.Statement.{statement}
 use Rattle.steps.proofs.turns.last_turn.Tie as tie
 
-finish-requires : tie.Need-finish-requires
-finish-requires c κs = search needs
-
-enum-told : tie.Need-enum-told
-enum-told c = search needs
-
-enum-told-2 : tie.Need-enum-told-2
-enum-told-2 c = search needs
-
-broken-requires : tie.Need-broken-requires
-broken-requires c κs = search needs
-
-put-stop-requires : tie.Need-put-stop-requires
-put-stop-requires c κs = search needs
-
-enum-told-3 : tie.Need-enum-told-3
-enum-told-3 c = search needs
-
 run-row-requires : tie.Need-run-row-requires
 run-row-requires c κs = let ready = c .before .before .before .before .before .before .before .before .before .before .before .before .before .before .before .pre .0 in (record { fits = ready .fits; row-fits = omega (arith, ready .row-fits); sheet-fits = ready .sheet-fits; accepted = ready .accepted }, c .before .before .before .before .before .before .before .before .before .before .before .before .before .before .before .pre .1)
 
 same-length : tie.Need-same-length
-same-length c = search needs
+same-length c = c .before .before .before .before .finish .kept .1 .0
 
 returns : tie.Need-returns
 unfolding didEnd didText turnOf whenPassed
 returns c = (c .before .before .before .before .finish .ensures .1, rw (sym (c .before .before .before .before .finish .ensures .0), c .enum-told .given .1) (nothing-written ends _ _ _ _ _ _ _ refl refl refl refl))
 
 same-length-2 : tie.Need-same-length-2
-same-length-2 c = search needs
+same-length-2 c = c .before .before .before .before .before .before .before .before .before .finish .kept .1 .0
 
 same-length-3 : tie.Need-same-length-3
-same-length-3 c = search needs
+same-length-3 c = c .before .before .put-stop .kept .1 .0
 
 returns-2 : tie.Need-returns-2
 unfolding didEnd
 returns-2 c = (c .before .before .before .before .before .before .before .before .before .finish .ensures .1, rw (sym (c .before .before .before .before .before .before .before .before .before .finish .ensures .0), c .before .before .before .before .before .enum-told2 .given .1) (break-stops _ _ _ _ _ _ _ (c .before .before .before .before .broken .ensures) (c .before .before .put-stop .ensures .0) (c .before .before .put-stop .ensures .1)))
 
 same-length-4 : tie.Need-same-length-4
-same-length-4 c = search needs
+same-length-4 c = c .before .before .before .before .before .before .run-row .kept .1 .1 .1 .0
 
 same-length-5 : tie.Need-same-length-5
-same-length-5 c = search needs
+same-length-5 c = c .before .before .before .before .before .before .before .before .before .before .before .before .before .before .before .finish .kept .1 .0
 
 same-length-6 : tie.Need-same-length-6
-same-length-6 c = search needs
+same-length-6 c = c .before .before .before .before .before .before .run-row .kept .1 .1 .1 .1 .1 .0
 
 same-length-7 : tie.Need-same-length-7
-same-length-7 c = search needs
+same-length-7 c = c .before .before .before .before .before .before .run-row .kept .1 .1 .1 .1 .1 .1 .0
 
 returns-3 : tie.Need-returns-3
 unfolding didEnd
@@ -65,12 +47,12 @@ pub last-turn-spec : {M : Type 1} → statement M
 last-turn-spec =
     tie.close
     (tie.spec
-    finish-requires
-    enum-told
-    enum-told-2
-    broken-requires
-    put-stop-requires
-    enum-told-3
+    (λ c κs. search needs)
+    (λ c. search needs)
+    (λ c. search needs)
+    (λ c κs. search needs)
+    (λ c κs. search needs)
+    (λ c. search needs)
     run-row-requires
     same-length
     returns

@@ -6,15 +6,6 @@ use Rattle.steps.proofs.Turning.{cells-most, row-runs, row-stops}
 use Rattle.steps.proofs.turns.run_row.Statement.{statement}
 use Rattle.steps.proofs.turns.run_row.Tie as tie
 
-run-row-requires : tie.Need-run-row-requires
-run-row-requires c κs = search needs
-
-enum-told : tie.Need-enum-told
-enum-told c = search needs
-
-cells-requires : tie.Need-cells-requires
-cells-requires c κs = search needs
-
 put-period-requires : tie.Need-put-period-requires
 put-period-requires c κs = let a = c .before .before .before .before .before .before .before .before .before .before .before .before .before .before .before .before .before .before .args in
     let ready = c .before .before .before .before .before .before .before .before .before .before .before .before .before .before .before .before .before .before .pre .0 in
@@ -23,35 +14,26 @@ put-period-requires c κs = let a = c .before .before .before .before .before .b
     let n = c .before .before .before .cells .ensures in
     (omega (arith, most, n), omega (arith, len, n, c .before .before .before .before .before .before .before .before .before .before .run-row .kept .1 .0), omega (arith, ready .sheet-fits, n, c .before .before .before .before .before .before .before .before .before .before .run-row .kept .1 .1 .1 .0), omega (arith, n, c .before .before .before .before .before .before .before .before .before .before .before .before .before .before .before .before .before .before .pre .1))
 
-enum-known-answer : tie.Need-enum-known-answer
-enum-known-answer c = search needs
-
-refused-in-requires : tie.Need-refused-in-requires
-refused-in-requires c κs = search needs
-
-put-stop-requires : tie.Need-put-stop-requires
-put-stop-requires c κs = search needs
-
 same-length : tie.Need-same-length
-same-length c = search needs
+same-length c = c .before .before .before .before .before .before .before .before .before .before .before .before .before .run-row .kept .1 .0
 
 same-length-2 : tie.Need-same-length-2
-same-length-2 c = search needs
+same-length-2 c = c .before .before .before .before .before .before .before .before .before .before .before .before .before .run-row .kept .1 .1 .1 .0
 
 same-length-3 : tie.Need-same-length-3
-same-length-3 c = search needs
+same-length-3 c = c .before .before .put-period .kept .1 .1 .1 .1 .0
 
 returns : tie.Need-returns
 returns c = row-runs _ _ _ _ _ _ _ _ (c .before .before .before .before .before .before .before .before .before .before .before .before .before .run-row .ensures) (c .before .before .before .before .before .before .before .enum-told .given .1) (c .before .before .before .before .before .before .cells .ensures) (c .before .before .put-period .ensures .0) (c .before .before .put-period .ensures .1)
 
 same-length-4 : tie.Need-same-length-4
-same-length-4 c = search needs
+same-length-4 c = c .before .before .before .before .before .before .before .before .before .before .before .before .run-row .kept .1 .0
 
 same-length-5 : tie.Need-same-length-5
-same-length-5 c = search needs
+same-length-5 c = c .before .before .before .before .before .before .before .before .before .before .before .before .run-row .kept .1 .1 .1 .0
 
 same-length-6 : tie.Need-same-length-6
-same-length-6 c = search needs
+same-length-6 c = c .before .before .put-stop .kept .1 .0
 
 returns-2 : tie.Need-returns-2
 returns-2 c = row-stops _ _ _ _ _ _ _ _ (c .before .before .before .before .before .before .before .before .before .before .before .before .run-row .ensures) (c .before .before .before .before .before .before .answer .given .1) (c .before .before .before .before .refused-in .ensures) (c .before .before .put-stop .ensures .0) (c .before .before .put-stop .ensures .1)
@@ -60,13 +42,13 @@ pub run-row-spec : {M : Type 1} → statement M
 run-row-spec =
     tie.close
     (tie.spec
-    run-row-requires
-    enum-told
-    cells-requires
+    (λ c κs. search needs)
+    (λ c. search needs)
+    (λ c κs. search needs)
     put-period-requires
-    enum-known-answer
-    refused-in-requires
-    put-stop-requires
+    (λ c. search needs)
+    (λ c κs. search needs)
+    (λ c κs. search needs)
     same-length
     same-length-2
     same-length-3

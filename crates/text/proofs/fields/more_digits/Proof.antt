@@ -19,20 +19,11 @@ abbrev μ-loop : tie.MeasureT-loop
 loop-holds : tie.Need-loop-holds Inv-loop μ-loop
 loop-holds c = (search needs, no-digits-yet _ _ _ _ (search needs))
 
-shared-slice-read-byte : tie.Need-shared-slice-read-byte Inv-loop μ-loop
-shared-slice-read-byte c = search needs
-
-is-digit-requires : tie.Need-is-digit-requires Inv-loop μ-loop
-is-digit-requires c κs = search needs
-
 returns : tie.Need-returns Inv-loop μ-loop
 returns c = c .before .before .before .before .loop .inv .1
 
 returns-2 : tie.Need-returns-2 Inv-loop μ-loop
 returns-2 c = c .before .before .before .before .before .loop .inv .1
-
-mul-value : tie.Need-mul-value Inv-loop μ-loop
-mul-value c = search needs
 
 sub-value : tie.Need-sub-value Inv-loop μ-loop
 sub-value c = let digit = is-digit (getD (c .before .before .before .before .before .before .before .args .chunk .now) (c .before .before .before .before .before .loop .next) 0) (sym (c .before .before .is-digit .ensures) ∙ not-false _ (c .before .if1 .left)) in omega arith
@@ -42,12 +33,6 @@ cast-value c = let digit = is-digit (getD (c .before .before .before .before .be
 
 add-value : tie.Need-add-value Inv-loop μ-loop
 add-value c = let digit = is-digit (getD (c .before .before .before .before .before .before .before .args .chunk .now) (c .before .before .before .before .before .loop .next) 0) (sym (c .before .before .is-digit .ensures) ∙ not-false _ (c .before .if1 .left)) in omega arith
-
-add-next : tie.Need-add-next Inv-loop μ-loop
-add-next c = search needs
-
-loop-less : tie.Need-loop-less Inv-loop μ-loop
-loop-less c = search needs
 
 loop-again : tie.Need-loop-again Inv-loop μ-loop
 loop-again c = let digit = is-digit (getD (c .before .before .before .before .before .before .before .args .chunk .now) (c .before .before .before .before .before .loop .next) 0) (sym (c .before .before .is-digit .ensures) ∙ not-false _ (c .before .if1 .left)) in
@@ -63,15 +48,15 @@ more-digits-spec =
     Inv-loop
     μ-loop
     loop-holds
-    shared-slice-read-byte
-    is-digit-requires
+    (λ c. search needs)
+    (λ c κs. search needs)
     returns
     returns-2
-    mul-value
+    (λ c. search needs)
     sub-value
     cast-value
     add-value
-    add-next
-    loop-less
+    (λ c. search needs)
+    (λ c. search needs)
     loop-again
     returns-3)

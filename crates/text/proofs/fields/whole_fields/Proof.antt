@@ -19,15 +19,6 @@ abbrev μ-loop : tie.MeasureT-loop
 loop-holds : tie.Need-loop-holds Inv-loop μ-loop
 loop-holds c = (no-fields-yet _ _ _ _ _ (search needs), refl)
 
-followed-requires : tie.Need-followed-requires Inv-loop μ-loop
-followed-requires c κs = search needs
-
-whole-field-requires : tie.Need-whole-field-requires Inv-loop μ-loop
-whole-field-requires c κs = search needs
-
-enum-known-begun : tie.Need-enum-known-begun Inv-loop μ-loop
-enum-known-begun c = search needs
-
 mul-row : tie.Need-mul-row Inv-loop μ-loop
 mul-row c = let more = ltb-true (c .before .before .before .before .before .before .loop .field + 1) (length (c .before .before .before .before .before .before .loop .row)) (sym (c .before .before .before .before .before .followed .ensures) ∙ c .before .before .before .before .if1 .taken) in let h : c .before .before .before .before .before .before .loop .field < length (c .before .before .before .before .before .before .before .before .before .args .row .now) = omega arith in search needs
 
@@ -44,9 +35,6 @@ loop-again : tie.Need-loop-again Inv-loop μ-loop
 loop-again c = let more = ltb-true (c .before .before .before .before .before .before .loop .field + 1) (length (c .before .before .before .before .before .before .loop .row)) (sym (c .before .before .before .before .before .followed .ensures) ∙ c .before .before .before .before .if1 .taken) in
     let one = rw (c .before .begun .given .1) at (c .before .before .before .whole-field .ensures) in
     (one-field-more (c .before .before .before .before .before .before .loop .inv .0) (omega arith) one, simp length-set (c .before .before .before .before .before .before .loop .inv .1))
-
-enum-told : tie.Need-enum-told Inv-loop μ-loop
-enum-told c = search needs
 
 same-length : tie.Need-same-length Inv-loop μ-loop
 same-length c = c .before .before .before .before .before .loop .inv .1
@@ -67,15 +55,15 @@ whole-fields-spec =
     Inv-loop
     μ-loop
     loop-holds
-    followed-requires
-    whole-field-requires
-    enum-known-begun
+    (λ c κs. search needs)
+    (λ c κs. search needs)
+    (λ c. search needs)
     mul-row
     slice-write-row
     add-field
     loop-less
     loop-again
-    enum-told
+    (λ c. search needs)
     same-length
     returns
     same-length-2

@@ -5,7 +5,7 @@ use native.Mathlib.Omega.{arith}
 use borrow.Author.Needs.{needs}
 use lib.ListN.{length}
 use Rattle.text.proofs.Reading.{check-last, Checking, checks, check-more, check-field, check-record, check-breaks, check-ends}
-use Rattle.text.specs.declared.End.the-variants.{Nothing, Last, Cut}
+use Rattle.scans.specs.declared.End.the-variants.{Nothing, Last, Cut}
 use Rattle.text.proofs.whole_text.check_text.Statement.{statement}
 use Rattle.text.proofs.whole_text.check_text.Tie as tie
 
@@ -21,78 +21,27 @@ Inv-loop text fields scan₀ records₀ i₀ scan records i = Checking fields te
 abbrev μ-loop : tie.MeasureT-loop
 μ-loop text fields scan₀ records₀ i₀ scan records i = length text - i
 
-begin-requires : tie.Need-begin-requires Inv-loop μ-loop
-begin-requires c κs = search needs
-
 loop-holds : tie.Need-loop-holds Inv-loop μ-loop
 loop-holds c = checks _ _ (c .begin .ensures)
-
-shared-slice-read-byte : tie.Need-shared-slice-read-byte Inv-loop μ-loop
-shared-slice-read-byte c = search needs
-
-add-i : tie.Need-add-i Inv-loop μ-loop
-add-i c = search needs
-
-feed-requires : tie.Need-feed-requires Inv-loop μ-loop
-feed-requires c κs = search needs
-
-enum-known-step : tie.Need-enum-known-step Inv-loop μ-loop
-enum-known-step c = search needs
-
-loop-less : tie.Need-loop-less Inv-loop μ-loop
-loop-less c = omega arith
 
 loop-again : tie.Need-loop-again Inv-loop μ-loop
 loop-again c = check-more (c .before .before .before .before .before .before .loop .inv) (search needs) (c .before .before .before .feed .ensures) (c .before .step .given .1)
 
-enum-known-step-2 : tie.Need-enum-known-step-2 Inv-loop μ-loop
-enum-known-step-2 c = search needs
-
-loop-less-2 : tie.Need-loop-less-2 Inv-loop μ-loop
-loop-less-2 c = omega arith
-
 loop-again-2 : tie.Need-loop-again-2 Inv-loop μ-loop
 loop-again-2 c = check-field (c .before .before .before .before .before .before .loop .inv) (search needs) (c .before .before .before .feed .ensures) (c .before .step2 .given .1)
 
-enum-told : tie.Need-enum-told Inv-loop μ-loop
-enum-told c = search needs
-
-begin-requires-2 : tie.Need-begin-requires-2 Inv-loop μ-loop
-begin-requires-2 c κs = search needs
-
 add-records : tie.Need-add-records Inv-loop μ-loop
 add-records c = omega (arith, c .before .before .before .before .before .before .loop .inv .fewer)
-
-loop-less-3 : tie.Need-loop-less-3 Inv-loop μ-loop
-loop-less-3 c = omega arith
 
 loop-again-3 : tie.Need-loop-again-3 Inv-loop μ-loop
 loop-again-3 c = check-record (c .before .before .before .before .before .before .loop .inv) (search needs) (c .before .before .before .feed .ensures) (c .before .enum-told .given .1)
     (c .begin2 .ensures)
 
-enum-told-2 : tie.Need-enum-told-2 Inv-loop μ-loop
-enum-told-2 c = search needs
-
-add-t15 : tie.Need-add-t15 Inv-loop μ-loop
-add-t15 c = omega arith
-
 returns : tie.Need-returns Inv-loop μ-loop
 returns c = check-breaks (c .before .before .before .before .before .loop .inv) (search needs) (c .before .before .feed .ensures) (c .enum-told2 .given .1)
 
-text-end-requires : tie.Need-text-end-requires Inv-loop μ-loop
-text-end-requires c κs = search needs
-
-enum-told-3 : tie.Need-enum-told-3 Inv-loop μ-loop
-enum-told-3 c = search needs
-
-enum-told-4 : tie.Need-enum-told-4 Inv-loop μ-loop
-enum-told-4 c = search needs
-
 add-t17 : tie.Need-add-t17 Inv-loop μ-loop
 add-t17 c = omega (arith, check-last (c .before .before .before .before .loop .inv) (c .before .before .text-end .ensures) (λ none. absurd (Last≢Nothing (sym (c .enum-told4 .given .1) ∙ none))))
-
-enum-told-5 : tie.Need-enum-told-5 Inv-loop μ-loop
-enum-told-5 c = search needs
 
 add-t18 : tie.Need-add-t18 Inv-loop μ-loop
 add-t18 c = omega (arith, check-last (c .before .before .before .before .loop .inv) (c .before .before .text-end .ensures) (λ none. absurd (Cut≢Nothing (sym (c .enum-told5 .given .1) ∙ none))))
@@ -112,30 +61,30 @@ check-text-spec =
     (tie.spec
     Inv-loop
     μ-loop
-    begin-requires
+    (λ c κs. search needs)
     loop-holds
-    shared-slice-read-byte
-    add-i
-    feed-requires
-    enum-known-step
-    loop-less
+    (λ c. search needs)
+    (λ c. search needs)
+    (λ c κs. search needs)
+    (λ c. search needs)
+    (λ c. omega arith)
     loop-again
-    enum-known-step-2
-    loop-less-2
+    (λ c. search needs)
+    (λ c. omega arith)
     loop-again-2
-    enum-told
-    begin-requires-2
+    (λ c. search needs)
+    (λ c κs. search needs)
     add-records
-    loop-less-3
+    (λ c. omega arith)
     loop-again-3
-    enum-told-2
-    add-t15
+    (λ c. search needs)
+    (λ c. omega arith)
     returns
-    text-end-requires
-    enum-told-3
-    enum-told-4
+    (λ c κs. search needs)
+    (λ c. search needs)
+    (λ c. search needs)
     add-t17
-    enum-told-5
+    (λ c. search needs)
     add-t18
     returns-2
     returns-3

@@ -9,24 +9,12 @@ use Rattle.text.specs.Reads.{fit}
 use Rattle.text.proofs.whole_text.fit.Statement.{statement}
 use Rattle.text.proofs.whole_text.fit.Tie as tie
 
-enum-known-text : tie.Need-enum-known-text
-enum-known-text c = search needs
-
 returns : tie.Need-returns
 unfolding fit
 returns c = let n = c .before .before .text .given .0 .0 in
     let a = c .before .before .before .before .args in
     let none : n * a .fields ≡ 0 = rw (c .if1 .taken) (omega arith) in
     rw (c .before .before .text .given .1) (rw (le-leb (n * a .fields) (a .room) (omega arith)))
-
-div-if2 : tie.Need-div-if2
-div-if2 c = search needs
-
-enum-known-text-2 : tie.Need-enum-known-text-2
-enum-known-text-2 c = search needs
-
-enum-told : tie.Need-enum-told
-enum-told c = search needs
 
 returns-2 : tie.Need-returns-2
 unfolding fit
@@ -52,11 +40,11 @@ pub fit-spec : {M : Type 1} → statement M
 fit-spec =
     tie.close
     (tie.spec
-    enum-known-text
+    (λ c. search needs)
     returns
-    div-if2
-    enum-known-text-2
-    enum-told
+    (λ c. search needs)
+    (λ c. search needs)
+    (λ c. search needs)
     returns-2
     returns-3
     returns-4

@@ -5,18 +5,9 @@ use Rattle.text.specs.Reads.{one}
 use Rattle.text.proofs.whole_text.one.Statement.{statement}
 use Rattle.text.proofs.whole_text.one.Tie as tie
 
-enum-known-text : tie.Need-enum-known-text
-enum-known-text c = search needs
-
 returns : tie.Need-returns
 unfolding one
 returns c = rw (c .before .before .text .given .1) (rw (eq-eqb (c .before .before .text .given .0 .0) 0 (c .if1 .taken)))
-
-enum-known-text-2 : tie.Need-enum-known-text-2
-enum-known-text-2 c = search needs
-
-enum-told : tie.Need-enum-told
-enum-told c = search needs
 
 returns-2 : tie.Need-returns-2
 unfolding one
@@ -42,10 +33,10 @@ pub one-spec : {M : Type 1} → statement M
 one-spec =
     tie.close
     (tie.spec
-    enum-known-text
+    (λ c. search needs)
     returns
-    enum-known-text-2
-    enum-told
+    (λ c. search needs)
+    (λ c. search needs)
     returns-2
     returns-3
     returns-4

@@ -15,85 +15,28 @@ Inv-loop text fields list₀ scan₀ place₀ i₀ list scan place i = Storing f
 abbrev μ-loop : tie.MeasureT-loop
 μ-loop text fields list₀ scan₀ place₀ i₀ list scan place i = length text - i
 
-begin-requires : tie.Need-begin-requires Inv-loop μ-loop
-begin-requires c κs = search needs
-
 loop-holds : tie.Need-loop-holds Inv-loop μ-loop
 loop-holds c = stores-from _ _ _ (c .begin .ensures)
-
-shared-slice-read-byte : tie.Need-shared-slice-read-byte Inv-loop μ-loop
-shared-slice-read-byte c = search needs
-
-add-i : tie.Need-add-i Inv-loop μ-loop
-add-i c = search needs
-
-feed-requires : tie.Need-feed-requires Inv-loop μ-loop
-feed-requires c κs = search needs
-
-enum-known-step : tie.Need-enum-known-step Inv-loop μ-loop
-enum-known-step c = search needs
-
-loop-less : tie.Need-loop-less Inv-loop μ-loop
-loop-less c = omega arith
 
 loop-again : tie.Need-loop-again Inv-loop μ-loop
 loop-again c = store-more (c .before .before .before .before .before .before .loop .inv) (search needs) (c .before .before .before .feed .ensures) (c .before .step .given .1)
 
-enum-known-step-2 : tie.Need-enum-known-step-2 Inv-loop μ-loop
-enum-known-step-2 c = search needs
-
-put-requires : tie.Need-put-requires Inv-loop μ-loop
-put-requires c κs = search needs
-
 add-place : tie.Need-add-place Inv-loop μ-loop
 add-place c = omega (arith, c .before .before .before .before .before .before .before .before .before .before .loop .inv .fewer)
-
-loop-less-2 : tie.Need-loop-less-2 Inv-loop μ-loop
-loop-less-2 c = omega arith
 
 loop-again-2 : tie.Need-loop-again-2 Inv-loop μ-loop
 loop-again-2 c = store-field (c .before .before .before .before .before .before .before .before .before .before .loop .inv) (search needs)
     (c .before .before .before .before .before .before .before .feed .ensures) (c .before .before .before .before .before .step2 .given .1) (c .before .before .put .ensures)
 
-enum-told : tie.Need-enum-told Inv-loop μ-loop
-enum-told c = search needs
-
-begin-requires-2 : tie.Need-begin-requires-2 Inv-loop μ-loop
-begin-requires-2 c κs = search needs
-
-loop-less-3 : tie.Need-loop-less-3 Inv-loop μ-loop
-loop-less-3 c = omega arith
-
 loop-again-3 : tie.Need-loop-again-3 Inv-loop μ-loop
 loop-again-3 c = store-record (c .before .before .before .before .before .before .loop .inv) (search needs) (c .before .before .before .feed .ensures) (c .before .enum-told .given .1)
     (c .begin2 .ensures)
-
-enum-told-2 : tie.Need-enum-told-2 Inv-loop μ-loop
-enum-told-2 c = search needs
 
 same-length : tie.Need-same-length Inv-loop μ-loop
 same-length c = c .before .before .before .before .before .loop .inv .same
 
 returns : tie.Need-returns Inv-loop μ-loop
 returns c = store-breaks (c .before .before .before .before .before .loop .inv) (search needs) (c .before .before .feed .ensures) (c .enum-told2 .given .1)
-
-feed-requires-2 : tie.Need-feed-requires-2 Inv-loop μ-loop
-feed-requires-2 c κs = search needs
-
-enum-known-step-3 : tie.Need-enum-known-step-3 Inv-loop μ-loop
-enum-known-step-3 c = search needs
-
-put-requires-2 : tie.Need-put-requires-2 Inv-loop μ-loop
-put-requires-2 c κs = search needs
-
-enum-told-3 : tie.Need-enum-told-3 Inv-loop μ-loop
-enum-told-3 c = search needs
-
-enum-told-4 : tie.Need-enum-told-4 Inv-loop μ-loop
-enum-told-4 c = search needs
-
-enum-told-5 : tie.Need-enum-told-5 Inv-loop μ-loop
-enum-told-5 c = search needs
 
 same-length-2 : tie.Need-same-length-2 Inv-loop μ-loop
 same-length-2 c = c .before .before .put2 .kept .0 ∙ c .before .before .before .before .before .before .before .before .before .loop .inv .same
@@ -129,32 +72,32 @@ store-text-spec =
     (tie.spec
     Inv-loop
     μ-loop
-    begin-requires
+    (λ c κs. search needs)
     loop-holds
-    shared-slice-read-byte
-    add-i
-    feed-requires
-    enum-known-step
-    loop-less
+    (λ c. search needs)
+    (λ c. search needs)
+    (λ c κs. search needs)
+    (λ c. search needs)
+    (λ c. omega arith)
     loop-again
-    enum-known-step-2
-    put-requires
+    (λ c. search needs)
+    (λ c κs. search needs)
     add-place
-    loop-less-2
+    (λ c. omega arith)
     loop-again-2
-    enum-told
-    begin-requires-2
-    loop-less-3
+    (λ c. search needs)
+    (λ c κs. search needs)
+    (λ c. omega arith)
     loop-again-3
-    enum-told-2
+    (λ c. search needs)
     same-length
     returns
-    feed-requires-2
-    enum-known-step-3
-    put-requires-2
-    enum-told-3
-    enum-told-4
-    enum-told-5
+    (λ c κs. search needs)
+    (λ c. search needs)
+    (λ c κs. search needs)
+    (λ c. search needs)
+    (λ c. search needs)
+    (λ c. search needs)
     same-length-2
     returns-2
     same-length-3

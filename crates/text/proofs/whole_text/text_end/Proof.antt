@@ -1,33 +1,9 @@
 -- `text::whole_text::text_end` meets its contract. Assumes nothing.
 use mathlib.Core.Path.{sym}
 use borrow.Author.Needs.{needs}
-use Rattle.text.specs.Scans.{ended}
+use Rattle.scans.specs.Scans.{ended}
 use Rattle.text.proofs.whole_text.text_end.Statement.{statement}
 use Rattle.text.proofs.whole_text.text_end.Tie as tie
-
-feed-requires : tie.Need-feed-requires
-feed-requires c κs = search needs
-
-enum-told : tie.Need-enum-told
-enum-told c = search needs
-
-enum-told-2 : tie.Need-enum-told-2
-enum-told-2 c = search needs
-
-unfinished-requires : tie.Need-unfinished-requires
-unfinished-requires c κs = search needs
-
-enum-told-3 : tie.Need-enum-told-3
-enum-told-3 c = search needs
-
-unfinished-requires-2 : tie.Need-unfinished-requires-2
-unfinished-requires-2 c κs = search needs
-
-enum-told-4 : tie.Need-enum-told-4
-enum-told-4 c = search needs
-
-unfinished-requires-3 : tie.Need-unfinished-requires-3
-unfinished-requires-3 c κs = search needs
 
 returns : tie.Need-returns
 unfolding ended
@@ -49,14 +25,14 @@ pub text-end-spec : {M : Type 1} → statement M
 text-end-spec =
     tie.close
     (tie.spec
-    feed-requires
-    enum-told
-    enum-told-2
-    unfinished-requires
-    enum-told-3
-    unfinished-requires-2
-    enum-told-4
-    unfinished-requires-3
+    (λ c κs. search needs)
+    (λ c. search needs)
+    (λ c. search needs)
+    (λ c κs. search needs)
+    (λ c. search needs)
+    (λ c κs. search needs)
+    (λ c. search needs)
+    (λ c κs. search needs)
     returns
     returns-2
     returns-3

@@ -1,0 +1,144 @@
+-- How the demand goes on, from one read to the next. Assumes nothing.
+use Prim.Native.Nat.{ℕ}
+use mathlib.Core.Path.{_≡_, refl}
+use mathlib.Core.Bool.{Bool, true, false}
+use mathlib.Core.List.{List, [], _∷_, _++_, append-assoc}
+use native.Mathlib.Omega.{arith}
+use lib.ListN.{length}
+use Rattle.scans.specs.Scans.{begin}
+use Rattle.scans.specs.declared.Scan.{Scan}
+use Rattle.steps.specs.Demand.{How, later, over, unfit, Followed, follow, followEnd, runFits, ifFits, followCall, endCall, runOf, Leaves}
+use Rattle.steps.specs.Steps.{Leads}
+use Rattle.steps.specs.declared.Run.the-variants as Run
+use Rattle.steps.proofs.Leading.{leads-here, next-chunk-leads}
+use Rattle.simulate.specs.Loops.{refuses, ends, Closes, Goes, GoesOn}
+use Rattle.simulate.specs.declared.Next.{Next}
+use Rattle.simulate.specs.declared.Next.the-variants.{On, Over, Lost, Shut, Unfit}
+
+module _ (table : List ℕ) (k : ℕ) (scan : Scan) (row state sheet left : List ℕ) where
+  pub leads-then : (pieces pieces′ : List (List ℕ)) {k₁ k₂ : ℕ} {scan₁ scan₂ : Scan} {row₁ state₁ sheet₁ left₁ row₂ state₂ sheet₂ left₂ : List ℕ}
+      → Leads table k scan row state sheet left pieces k₁ scan₁ row₁ state₁ sheet₁ left₁
+      → Leads table k₁ scan₁ row₁ state₁ sheet₁ left₁ pieces′ k₂ scan₂ row₂ state₂ sheet₂ left₂
+      → Leads table k scan row state sheet left (pieces ++ pieces′) k₂ scan₂ row₂ state₂ sheet₂ left₂
+  leads-then pieces pieces′ first then =
+      record {
+        lines = first .lines ++ then .lines;
+        on = λ more out follows. rw (append-assoc pieces pieces′ more, append-assoc (first .lines) (then .lines) out) (first .on (pieces′ ++ more) (then .lines ++ out) (then .on more out follows));
+      }
+
+  -- a call of `follow` that refuses a record
+  pub call-closes : {k₁ : ℕ} {scan₁ : Scan} {row₁ state₁ sheet₁ left₁ : List ℕ} → Leads table k scan row state sheet left [] k₁ scan₁ row₁ state₁ sheet₁ left₁
+      → (out piece : List ℕ) → piece ≡ left₁ → {at : ℕ} {row′ state′ sheet′ out′ : List ℕ}
+      → Leaves (followCall table k₁ scan₁ row₁ state₁ sheet₁ out piece) (length piece) out (Run.Over at) row′ state′ sheet′ out′
+      → Closes table k scan row state sheet left [] row′ state′ sheet′ out′
+  unfolding runOf
+  call-closes {k₁} {scan₁} {row₁} {state₁} {sheet₁} {left₁} leads out piece same {at} {row′} {state′} {sheet′} {out′} leaves =
+      by (runFits table state₁ row₁ sheet₁ out) (rw same at leaves)
+    where
+      f : Followed
+      f = follow table (length out) k₁ scan₁ row₁ state₁ sheet₁ left₁
+
+      closed : (how : How) → f .how ≡ how → Leaves f (length left₁) out (Run.Over at) row′ state′ sheet′ out′ → Run.Over at ≡ runOf how (length left₁) (length (f .text)) → Closes table k scan row state sheet left [] row′ state′ sheet′ out′
+      closed over is so e =
+          record {
+            k₁ = k₁;
+            scan₁ = scan₁;
+            row₁ = row₁;
+            state₁ = state₁;
+            sheet₁ = sheet₁;
+            left₁ = left₁;
+            out₁ = out;
+            leads = leads;
+            f = f;
+            last = refuses (length out) refl is;
+            leavesRow = so .leavesRow;
+            leavesState = so .leavesState;
+            leavesSheet = so .leavesSheet;
+            writes = so .writes;
+          }
+      closed (later k″ scan″ rest) is so e = absurd (let z : _≡_ {A = ℕ} 0 1 = cc in omega arith)
+      closed unfit is so e = absurd (let z : _≡_ {A = ℕ} 0 1 = cc in omega arith)
+
+      by : (fits : Bool) → Leaves (ifFits fits row₁ state₁ sheet₁ f) (length left₁) out (Run.Over at) row′ state′ sheet′ out′ → Closes table k scan row state sheet left [] row′ state′ sheet′ out′
+      by true so = closed (f .how) refl so (so .answered)
+      by false so = absurd (let e = so .answered in let z : _≡_ {A = ℕ} 0 1 = cc in omega arith)
+
+module _ (table : List ℕ) (k : ℕ) (scan : Scan) (row state sheet : List ℕ) where
+  -- the demand's end
+  pub end-closes : (out : List ℕ) {at : ℕ} {row′ state′ sheet′ out′ : List ℕ} → Leaves (endCall table k scan row state sheet out) 0 out (Run.Over at) row′ state′ sheet′ out′
+      → Closes table k scan row state sheet [] [] row′ state′ sheet′ out′
+  unfolding runOf
+  end-closes out {at} {row′} {state′} {sheet′} {out′} leaves = by (runFits table state row sheet out) leaves
+    where
+      by : (fits : Bool) → Leaves (ifFits fits row state sheet (followEnd table k scan row state sheet)) 0 out (Run.Over at) row′ state′ sheet′ out′ → Closes table k scan row state sheet [] [] row′ state′ sheet′ out′
+      by true so =
+          record {
+            k₁ = k;
+            scan₁ = scan;
+            row₁ = row;
+            state₁ = state;
+            sheet₁ = sheet;
+            left₁ = [];
+            out₁ = out;
+            leads = leads-here table k scan row state sheet [];
+            f = followEnd table k scan row state sheet;
+            last = ends refl refl;
+            leavesRow = so .leavesRow;
+            leavesState = so .leavesState;
+            leavesSheet = so .leavesSheet;
+            writes = so .writes;
+          }
+      by false so = absurd (let e = so .answered in let z : _≡_ {A = ℕ} 0 1 = cc in omega arith)
+
+module _ {table : List ℕ} {k : ℕ} {scan : Scan} {row state sheet : List ℕ} where
+  -- the same last call, led to from elsewhere
+  led-from : {k₀ : ℕ} {scan₀ : Scan} {row₀ state₀ sheet₀ left₀ left : List ℕ} {pieces₀ pieces : List (List ℕ)} {row′ state′ sheet′ out′ : List ℕ} (c : Closes table k scan row state sheet left pieces row′ state′ sheet′ out′)
+      → Leads table k₀ scan₀ row₀ state₀ sheet₀ left₀ pieces₀ (c .k₁) (c .scan₁) (c .row₁) (c .state₁) (c .sheet₁) (c .left₁) → Closes table k₀ scan₀ row₀ state₀ sheet₀ left₀ pieces₀ row′ state′ sheet′ out′
+  led-from c leads =
+      record {
+        k₁ = c .k₁;
+        scan₁ = c .scan₁;
+        row₁ = c .row₁;
+        state₁ = c .state₁;
+        sheet₁ = c .sheet₁;
+        left₁ = c .left₁;
+        out₁ = c .out₁;
+        leads = leads;
+        f = c .f;
+        last = c .last;
+        leavesRow = c .leavesRow;
+        leavesState = c .leavesState;
+        leavesSheet = c .leavesSheet;
+        writes = c .writes;
+      }
+
+  -- a chunk that a read brings
+  pub chunk-goes : {row′ state′ sheet′ out′ : List ℕ} (next : Next) (chunk : List ℕ) → Goes next table k scan row state sheet chunk [] row′ state′ sheet′ out′ → GoesOn next table k scan row state sheet row′ state′ sheet′ out′
+  chunk-goes (On k′ scan′) chunk goes = record { pieces = chunk ∷ []; goes = next-chunk-leads table k scan row state sheet chunk goes }
+  chunk-goes Over chunk goes = record { pieces = chunk ∷ []; goes = led-from goes (next-chunk-leads table k scan row state sheet chunk (goes .leads)) }
+  chunk-goes Lost chunk goes = record { pieces = []; goes = goes }
+  chunk-goes Shut chunk goes = record { pieces = []; goes = tt }
+  chunk-goes Unfit chunk goes = record { pieces = []; goes = tt }
+
+-- the reads from period 1 on
+module _ (table row state sheet : List ℕ) where
+  -- where they have led
+  abbrev pub Stands : ℕ → Scan → List ℕ → List ℕ → List ℕ → Type 0
+  Stands k scan row′ state′ sheet′ = GoesOn (On k scan) table 1 begin row state sheet row′ state′ sheet′ []
+
+  pub stands-first : Stands 1 begin row state sheet
+  stands-first = record { pieces = []; goes = leads-here table 1 begin row state sheet [] }
+
+  module _ {k : ℕ} {scan : Scan} {row₁ state₁ sheet₁ row′ state′ sheet′ out′ : List ℕ} (so : Stands k scan row₁ state₁ sheet₁) where
+    -- one more read
+    pub stands-then : {k′ : ℕ} {scan′ : Scan} → GoesOn (On k′ scan′) table k scan row₁ state₁ sheet₁ row′ state′ sheet′ out′ → Stands k′ scan′ row′ state′ sheet′
+    stands-then then = record { pieces = so .pieces ++ then .pieces; goes = leads-then table 1 begin row state sheet [] (so .pieces) (then .pieces) (so .goes) (then .goes) }
+
+    -- a read that fails
+    pub stands-still : GoesOn Lost table k scan row₁ state₁ sheet₁ row′ state′ sheet′ out′ → GoesOn (On k scan) table 1 begin row state sheet row′ state′ sheet′ out′
+    stands-still then = record { pieces = so .pieces; goes = rw (then .goes .0, then .goes .1, then .goes .2) (so .goes) }
+
+    -- the last one
+    pub closes-then : GoesOn Over table k scan row₁ state₁ sheet₁ row′ state′ sheet′ out′ → GoesOn Over table 1 begin row state sheet row′ state′ sheet′ out′
+    closes-then then =
+        record { pieces = so .pieces ++ then .pieces; goes = led-from (then .goes) (leads-then table 1 begin row state sheet [] (so .pieces) (then .pieces) (so .goes) (then .goes .leads)) }
