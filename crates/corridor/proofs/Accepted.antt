@@ -12,9 +12,11 @@ use Rattle.whole.proofs.Search.{Passes, passes-every}
 use Rattle.refusals.specs.declared.Answer.the-variants.{Accepted}
 use Rattle.layout.specs.Layout.{cells, rowAt, entryQueue, countAt, queueAt, entryDemand, onDemandAt, offDemandAt}
 use Rattle.refusals.specs.Checks.{Check, answer}
-use Rattle.corridor.specs.Acceptance.{withRamp, givenOff, queueLimit, demandLimit, tableNumbers, stateInRange, stateNumbers, demandNumbers}
+use Rattle.ranges.specs.Ranges.{withRamp, givenOff, queueLimit, demandLimit}
+use Rattle.corridor.specs.Acceptance.{tableNumbers, stateInRange, stateNumbers, demandNumbers}
 use Rattle.refusals.proofs.Answers.{accepted-passes, passes-accepted, accepted-both}
-use Rattle.corridor.proofs.Ranges.{InRange, in-range, both-hold}
+use Rattle.whole.proofs.Tests.{both-hold}
+use Rattle.ranges.proofs.Ranges.{InRange, in-range}
 
 pub record TableFits (table : List ℕ) : Type 0 where
   pub rows : (i : ℕ) → i < cells table → InRange (rowAt table i)

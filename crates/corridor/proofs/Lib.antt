@@ -1,4 +1,4 @@
-pub mod Ranges
+pub mod Lengths
 pub mod Marks
 pub mod Ramps
 pub mod Accepted

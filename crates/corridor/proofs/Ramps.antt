@@ -13,8 +13,9 @@ use Rattle.whole.specs.Search.{pick, every}
 use Rattle.whole.proofs.Search.{Passes}
 use Rattle.layout.specs.declared.Row.{Row}
 use Rattle.layout.specs.Layout.{cells, rowAt, rampAt}
-use Rattle.corridor.specs.Acceptance.{rowInRange, rampIsNew}
-use Rattle.corridor.proofs.Ranges.{InRange, in-range}
+use Rattle.ranges.specs.Ranges.{rowInRange}
+use Rattle.corridor.specs.Acceptance.{rampIsNew}
+use Rattle.ranges.proofs.Ranges.{InRange, in-range}
 use Rattle.corridor.proofs.Marks.{up, withMark, fresh-down, own-mark-up, other-marks-stay}
 
 -- none of the first k positions along the road has the number a

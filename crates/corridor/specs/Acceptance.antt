@@ -4,13 +4,12 @@ use mathlib.Core.Bool.{Bool, not, _&&_, _||_}
 use mathlib.Core.List.{List, [], _∷_, _++_}
 use lib.Dec.{leb, eqb}
 use lib.ListN.{length}
-use Rattle.whole.specs.Share.{ONE}
-use Rattle.whole.specs.Search.{pick, within, every}
+use Rattle.whole.specs.Search.{within, every}
 use Rattle.whole.specs.Sums.{atPosition}
-use Rattle.layout.specs.declared.Row.{Row}
 use Rattle.refusals.specs.declared.Refusal.the-variants.{TableNumber, RoomShares, RampAgain, StateNumber, Demand, QueueOver}
 use Rattle.layout.specs.Layout.{cells, rowAt, rampAt, stateLength, entryQueue, countAt, queueAt, demandLength, entryDemand, onDemandAt, offDemandAt}
 use Rattle.refusals.specs.Checks.{Check, lengths}
+use Rattle.ranges.specs.Ranges.{rowInRange, roomShared, queueLimit, stateFits, demandLimit, demandFits, queueHolds}
 
 -- 1: a table has 1 to 512 whole rows, and the other lengths follow from N
 abbrev pub tableLengthFits : List ℕ → Bool
@@ -22,51 +21,9 @@ stateLengthsFit table state = tableLengthFits table && eqb (length state) (state
 abbrev pub rowLengthsFit : List ℕ → List ℕ → List ℕ → Bool
 rowLengthsFit table state demand = stateLengthsFit table state && eqb (length demand) (demandLength (cells table))
 
--- a bound that holds where there is a ramp; with ramp number 0 it is 0
-abbrev pub withRamp : ℕ → ℕ → ℕ
-withRamp ramp bound = pick (eqb ramp 0) 0 bound
-
--- 2: each number of a row is in its column's range
-unfoldable pub rowInRange : Row → Bool
-rowInRange r =
-    within 1 ONE (r .v)
-    && within 1 ONE (r .w)
-    && within 1 1_000_000 (r .capacity)
-    && within 1 4_000_000 (r .jam)
-    && within 0 65_535 (r .on)
-    && within (withRamp (r .on) 1) (withRamp (r .on) 65_535) (r .x)
-    && within (withRamp (r .on) 1) (withRamp (r .on) 1_000_000) (r .c)
-    && within 0 65_535 (r .off)
-    && within 0 (withRamp (r .off) 65_535) (r .b)
-
--- 3: w + x is at most ONE
-abbrev pub roomShared : Row → Bool
-roomShared r = leb (r .w + r .x) ONE
-
 -- 4: a ramp number stands at no earlier position along the road; 0 is no ramp
 abbrev pub rampIsNew : List ℕ → ℕ → Bool
 rampIsNew table k = eqb (rampAt table k) 0 || every k (λ j. not (eqb (rampAt table j) (rampAt table k)))
-
--- 5: a queue is at most 1,000,000,000, and 0 where there is no on-ramp; a count is at most J
-abbrev pub queueLimit : ℕ
-queueLimit = 1_000_000_000
-
-abbrev pub stateFits : Row → ℕ → ℕ → Bool
-stateFits r n q = leb n (r .jam) && leb q (withRamp (r .on) queueLimit)
-
--- 6: a demand is at most 1,000,000; d is 0 without an on-ramp, o is 0 unless an off-ramp has b = 0
-abbrev pub demandLimit : ℕ
-demandLimit = 1_000_000
-
-abbrev pub givenOff : Row → ℕ
-givenOff r = pick (eqb (r .b) 0) (withRamp (r .off) demandLimit) 0
-
-abbrev pub demandFits : Row → ℕ → ℕ → Bool
-demandFits r d o = leb d (withRamp (r .on) demandLimit) && leb o (givenOff r)
-
--- 7: queue plus demand is at most 1,000,000,000
-abbrev pub queueHolds : ℕ → ℕ → Bool
-queueHolds queue demand = leb (queue + demand) queueLimit
 
 -- The checks, by number. A place is a cell, counted from 1, or 0 for the entry.
 

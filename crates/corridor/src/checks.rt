@@ -9,31 +9,13 @@ ghost use lib.ListN.{length, getD, set};
 ghost use Rattle.whole.specs.Search.{pick, every};
 ghost use Rattle.layout.specs.Layout.{cells, rampAt, stateLength, demandLength};
 ghost use Rattle.refusals.specs.Checks.{least};
-ghost use Rattle.corridor.specs.Acceptance.{withRamp, givenOff, rowInRange, roomShared, rowsInRange, roomsShared, rampsOnce, stateFits, stateInRange, demandFits, demandInRange, queueHolds, queuesHold};
+ghost use Rattle.corridor.specs.Acceptance.{rowsInRange, roomsShared, rampsOnce, stateInRange, demandInRange, queuesHold};
 use layout::*;
-use whole::within;
-
-// A bound where there is a ramp; 0 where there is none.
-fn with_ramp(ramp: u32, bound: u32) -> u32
-    ensures { λ r. ⌜ r ≡ withRamp ramp bound ⌝ }
-{
-    if ramp == 0 { 0 } else { bound }
-}
-
-// Whether each number of a row is in its column's range.
-fn row_in_range(row: Row) -> bool
-    ensures { λ r. ⌜ r ≡ rowInRange row ⌝ }
-{
-    within(1, 65_536, row.v)
-        & within(1, 65_536, row.w)
-        & within(1, 1_000_000, row.capacity)
-        & within(1, 4_000_000, row.jam)
-        & within(0, 65_535, row.on)
-        & within(with_ramp(row.on, 1), with_ramp(row.on, 65_535), row.x)
-        & within(with_ramp(row.on, 1), with_ramp(row.on, 1_000_000), row.c)
-        & within(0, 65_535, row.off)
-        & within(0, with_ramp(row.off, 65_535), row.b)
-}
+use ranges::demand_fits;
+use ranges::queue_holds;
+use ranges::room_shared;
+use ranges::row_in_range;
+use ranges::state_fits;
 
 // Number 2.
 pub(crate) fn rows_in_range(table: &[u32]) -> usize
@@ -48,13 +30,6 @@ pub(crate) fn rows_in_range(table: &[u32]) -> usize
         i += 1;
     }
     n
-}
-
-// Whether w + x is at most ONE, worked out in 64 bits.
-fn room_shared(row: Row) -> bool
-    ensures { λ r. ⌜ r ≡ roomShared row ⌝ }
-{
-    (row.w as u64) + (row.x as u64) <= 65_536
 }
 
 // Number 3.
@@ -107,13 +82,6 @@ pub(crate) fn ramps_once(table: &[u32]) -> usize
     2 * n
 }
 
-// Whether a cell's count and on-ramp queue are in their ranges.
-fn state_fits(row: Row, n: u32, q: u32) -> bool
-    ensures { λ r. ⌜ r ≡ stateFits row n q ⌝ }
-{
-    (n <= row.jam) & (q <= with_ramp(row.on, 1_000_000_000))
-}
-
 // The same at a position.
 fn state_fits_at(table: &[u32], state: &[u32], position: usize) -> bool
     requires { ⌜ length (now state) ≡ stateLength (cells (now table)) ⌝ }
@@ -147,24 +115,6 @@ pub(crate) fn state_in_range(table: &[u32], state: &[u32]) -> usize
     n
 }
 
-// The most that a row lets an off-ramp's demand be.
-fn given_off(row: Row) -> u32
-    ensures { λ r. ⌜ r ≡ givenOff row ⌝ }
-{
-    if row.b == 0 {
-        with_ramp(row.off, 1_000_000)
-    } else {
-        0
-    }
-}
-
-// Whether a cell's on-ramp and off-ramp demands are in their ranges.
-fn demand_fits(row: Row, d: u32, o: u32) -> bool
-    ensures { λ r. ⌜ r ≡ demandFits row d o ⌝ }
-{
-    (d <= with_ramp(row.on, 1_000_000)) & (o <= given_off(row))
-}
-
 // The same at a position.
 fn demand_fits_at(table: &[u32], demand: &[u32], position: usize) -> bool
     requires { ⌜ length (now demand) ≡ demandLength (cells (now table)) ⌝ }
@@ -196,13 +146,6 @@ pub(crate) fn demand_in_range(table: &[u32], demand: &[u32]) -> usize
         i += 1;
     }
     n
-}
-
-// Whether a queue and its demand together stay within a queue's range, worked out in 64 bits.
-fn queue_holds(queue: u32, demand: u32) -> bool
-    ensures { λ r. ⌜ r ≡ queueHolds queue demand ⌝ }
-{
-    (queue as u64) + (demand as u64) <= 1_000_000_000
 }
 
 // The same at a position.

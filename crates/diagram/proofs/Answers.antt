@@ -13,7 +13,7 @@ use Rattle.refusals.specs.declared.Refusal.{Refusal}
 use Rattle.refusals.specs.declared.Answer.{Answer}
 use Rattle.refusals.specs.declared.Answer.the-variants.{Accepted, Refused}
 use Rattle.refusals.specs.Checks.{Check, least, orLater, answer, lengths}
-use Rattle.corridor.proofs.Ranges.{both-hold}
+use Rattle.whole.proofs.Tests.{both-hold}
 use Rattle.refusals.proofs.Answers.{refused-stays, accepted-goes-on}
 use Rattle.diagram.specs.declared.Settings.{Settings}
 use Rattle.diagram.specs.declared.Sample.{Sample}

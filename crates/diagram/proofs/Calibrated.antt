@@ -18,8 +18,8 @@ use Rattle.layout.specs.declared.Row.{Row}
 use Rattle.refusals.specs.declared.Answer.{Answer}
 use Rattle.refusals.specs.declared.Answer.the-variants.{Accepted, Refused}
 use Rattle.refusals.specs.Checks.{Check, least, orLater, answer, lengths}
-use Rattle.corridor.specs.Acceptance.{rowInRange}
-use Rattle.corridor.proofs.Ranges.{both-hold}
+use Rattle.ranges.specs.Ranges.{rowInRange}
+use Rattle.whole.proofs.Tests.{both-hold}
 use Rattle.diagram.specs.declared.Settings.{Settings}
 use Rattle.diagram.specs.declared.Sample.{Sample}
 use Rattle.diagram.specs.declared.Sample.the-variants.{Good, Unusable}

@@ -15,7 +15,7 @@ use Rattle.whole.specs.Search.{pick}
 use Rattle.whole.specs.Lists.{build}
 use Rattle.diagram.specs.declared.Sample.{Sample}
 use Rattle.diagram.specs.declared.Sample.the-variants.{Good, Unusable}
-use Rattle.corridor.proofs.Ranges.{both-hold}
+use Rattle.whole.proofs.Tests.{both-hold}
 use Rattle.diagram.specs.declared.Sums.{Sums}
 use Rattle.diagram.specs.declared.Diagram.{Diagram}
 use Rattle.diagram.specs.Doubles.{_⊕_, _⊖_, _⊘_, double, isZero}

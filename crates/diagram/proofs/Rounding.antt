@@ -17,7 +17,7 @@ use lib.Ieee.Order.{le-of-values}
 use lib.Ieee.Back.{round-whole}
 use lib.Ieee.Positive as positive
 use Rattle.std.proofs.num.Truncating as truncating
-use Rattle.corridor.proofs.Ranges.{both-hold}
+use Rattle.whole.proofs.Tests.{both-hold}
 use Rattle.diagram.specs.Doubles.{double}
 use Rattle.diagram.specs.declared.RowValues.{RowValues}
 use Rattle.diagram.specs.declared.RowNumbers.{RowNumbers}

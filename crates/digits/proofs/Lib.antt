@@ -1,4 +1,3 @@
-pub mod Tests
 pub mod Stores
 pub mod Digits
 pub mod Lines

@@ -13,7 +13,7 @@ use Rattle.whole.specs.Search.{pick}
 use Rattle.digits.specs.Lines.{CR, LF, COMMA, digitsOf, furtherText, recordText, restText, lineText}
 use Rattle.digits.specs.Writes.{separated, restWritten, afterRest}
 use Rattle.digits.specs.declared.Written.the-variants.{To, NoRoom}
-use Rattle.digits.proofs.Tests.{same-test}
+use Rattle.whole.proofs.Tests.{same-test}
 use Rattle.digits.proofs.Stores.{rest-of, stores-after}
 use Rattle.digits.proofs.Digits.{at-most-20}
 

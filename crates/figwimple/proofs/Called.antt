@@ -16,7 +16,8 @@ use Rattle.refusals.specs.declared.Answer.{Answer}
 use Rattle.refusals.specs.declared.Answer.the-variants.{Accepted, Refused}
 use Rattle.refusals.specs.Refusals.{numberOf, placeOf}
 use Rattle.refusals.specs.Checks.{answer}
-use Rattle.corridor.proofs.Ranges.{Between, both-hold}
+use Rattle.whole.proofs.Tests.{both-hold}
+use Rattle.ranges.proofs.Ranges.{Between}
 use Rattle.period.specs.Period.{PeriodDone}
 use Rattle.run.specs.declared.Ran.{Ran}
 use Rattle.run.specs.Run.{RunDone}

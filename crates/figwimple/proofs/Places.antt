@@ -17,7 +17,8 @@ use Rattle.refusals.specs.Refusals.{placeOf}
 use Rattle.refusals.specs.Checks.{Check, least, orLater, answer, whenAccepted, lengths}
 use Rattle.corridor.specs.Acceptance.{tableLengthFits, stateLengthsFit, rowLengthsFit, tableNumbers, stateInRange, stateNumbers, demandNumbers, tableChecks, stateChecks, rowChecks, bothTables}
 use Rattle.refusals.proofs.Answers.{accepted-passes}
-use Rattle.corridor.proofs.Ranges.{both-hold, cells-fit}
+use Rattle.whole.proofs.Tests.{both-hold}
+use Rattle.corridor.proofs.Lengths.{cells-fit}
 use Rattle.period.specs.Period.{periodChecks}
 use Rattle.layout.specs.Sheet.{sheetLength}
 use Rattle.run.specs.Run.{rows, rowOf, stateAfterPeriods, runListsFit, runChecks, isAccepted, rowAnswer, completed, rowsAnswer, periodsRun, runAnswer}

@@ -12,7 +12,7 @@ use Rattle.refusals.specs.declared.Answer.the-variants.{Accepted, Refused}
 use Rattle.refusals.specs.declared.Refusal.the-variants.{Length}
 use Rattle.refusals.specs.Checks.{answer}
 use Rattle.corridor.specs.Acceptance.{stateChecks}
-use Rattle.corridor.proofs.Ranges.{both-hold}
+use Rattle.whole.proofs.Tests.{both-hold}
 use Rattle.files.specs.Stops.{broken, refusedIn}
 use Rattle.files.specs.Files.{cellsFound, stateFound, acceptedThen}
 use Rattle.files.specs.declared.Stop.{Stop}

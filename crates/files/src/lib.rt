@@ -84,21 +84,6 @@ pub fn start() -> Reading
     }
 }
 
-// No byte of the next record is read yet.
-fn between(scan: Scan) -> bool
-    ensures { λ r. ⌜ r ≡ untouched scan ⌝ }
-{
-    match scan {
-        Scan::Start { field, bytes: _ } => field == 0,
-        Scan::Number {
-            field: _,
-            bytes: _,
-            value: _,
-        } => false,
-        Scan::Return => false,
-    }
-}
-
 // Reads one byte of a file.
 fn read_byte(byte: u8, fields: usize, reading: Reading, list: &mut [u32]) -> Reading
     ensures answer { λ r. ⌜ r ≡ fileOn fields reading (now (list .entry)) (byte ∷ []) .0 ⌝ }
@@ -157,7 +142,7 @@ pub fn read_on(chunk: &[u8], fields: usize, reading: Reading, list: &mut [u32]) 
 fn unfinished(records: usize, scan: Scan) -> File
     ensures { λ r. ⌜ r ≡ pick (untouched scan) (File.Holds records) (File.BrokenAt (counted records)) ⌝ }
 {
-    if between(scan) {
+    if scans::untouched(scan) {
         File::Holds(records)
     } else {
         File::BrokenAt(counted(records))

@@ -14,7 +14,8 @@ use Rattle.refusals.specs.declared.Answer.the-variants.{Accepted}
 use Rattle.layout.specs.Layout.{cells, rowAt, entryQueue, countAt, queueAt, onDemandAt}
 use Rattle.corridor.specs.Vehicles.{vehicles}
 use Rattle.refusals.specs.Checks.{answer}
-use Rattle.corridor.specs.Acceptance.{withRamp, queueLimit, demandLimit, tableNumbers, stateInRange, stateNumbers, demandNumbers}
+use Rattle.ranges.specs.Ranges.{withRamp, queueLimit, demandLimit}
+use Rattle.corridor.specs.Acceptance.{tableNumbers, stateInRange, stateNumbers, demandNumbers}
 use Rattle.refusals.proofs.Answers.{accepted-both, both-accepted, passes-accepted}
 use Rattle.corridor.proofs.Accepted.{TableFits, StateFits, RowFits, table-fits, state-fits, row-fits}
 use Rattle.period.specs.Sharing.{Sharing}

@@ -7,7 +7,8 @@ use native.Mathlib.Omega.{arith}
 use Rattle.layout.specs.Layout.{cells, rowAt, countAt, stateLength, demandLength}
 use Rattle.corridor.specs.Acceptance.{tableNumbers, stateInRange, stateNumbers, demandNumbers}
 use Rattle.refusals.proofs.Answers.{accepted-passes, accepted-both}
-use Rattle.corridor.proofs.Ranges.{row-lengths, with-ramp-at-most}
+use Rattle.ranges.proofs.Ranges.{with-ramp-at-most}
+use Rattle.corridor.proofs.Lengths.{row-lengths}
 use Rattle.corridor.proofs.Accepted.{TableFits, StateFits, RowFits, table-fits, state-fits, row-fits}
 use Rattle.period.specs.Period.{RowAccepted}
 

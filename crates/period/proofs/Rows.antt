@@ -10,11 +10,11 @@ use Rattle.layout.specs.Layout.{cells, stateLength, demandLength}
 use Rattle.refusals.specs.Checks.{answer}
 use Rattle.corridor.specs.Acceptance.{tableLengthFits, stateLengthsFit, rowLengthsFit, stateNumbers, demandNumbers, demandChecks}
 use Rattle.refusals.proofs.Answers.{lengths-passed, both-accepted}
-use Rattle.corridor.proofs.Ranges.{both-hold}
+use Rattle.whole.proofs.Tests.{both-hold}
 use Rattle.period.specs.Period.{RowAccepted}
 
 module _ (table state row : List ℕ) (fits : stateLengthsFit table state ≡ true) (len : length row ≡ demandLength (cells table)) where
-  row-fits : rowLengthsFit table state row ≡ true
+  pub row-fits : rowLengthsFit table state row ≡ true
   row-fits = ap (λ b. stateLengthsFit table state && b) (eq-eqb _ _ len) ∙ and-true _ ∙ fits
 
   pub row-alone : answer (demandChecks table state row) ≡ answer (demandNumbers table state row)

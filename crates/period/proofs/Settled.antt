@@ -19,7 +19,7 @@ period-settles κs a y z e f p q =
 by-answer : (new old : List ℕ) {a b : Answer} {y z : List ℕ} → a ≡ b → y ≡ whenAccepted a new old → z ≡ whenAccepted b new old → y ≡ z
 by-answer new old same p q = p ∙ ap (λ (c : Answer). whenAccepted c new old) same ∙ sym q
 
-pub run-row-settles : SettlesLists _ run-row-kinds.ps run-row-kinds.r (List ℕ × List ℕ) (λ κs e. (now (e .1 .0), now (e .1 .1 .1 .0))) run-row.Learnt
+pub run-row-settles : SettlesLists _ run-row-kinds.ps run-row-kinds.r (List ℕ × List ℕ) (λ κs e. (now (e .1 .1 .0), now (e .1 .1 .1 .1 .0))) run-row.Learnt
 run-row-settles κs a y z e f p q =
     let same = settled (p .answered) (q .answered) in
     (same, λ i. (by-answer _ _ same (p .leavesState) (q .leavesState) i, by-answer _ _ same (p .leavesSheet) (q .leavesSheet) i))

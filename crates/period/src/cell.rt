@@ -61,11 +61,14 @@ fn off_flow(row: Row, n: u32, o: u32, f: u64) -> u64
     least(leaving(row, n, o, f), n as u64 - f)
 }
 
-// r.
+// r. Most cells have no on-ramp, and with c = 0 nothing need be worked out.
 fn on_flow(row: Row, n: u32, q: u32, d: u32) -> u64
     requires { ⌜ n ≤ row .jam ⌝ }
     ensures { λ r. ⌜ r ≡ onFlow row n q d ⌝ }
 {
+    if row.c == 0 {
+        return 0;
+    }
     least(
         least(q as u64 + d as u64, row.c as u64),
         share(row.x, row.jam - n),

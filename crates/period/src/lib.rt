@@ -5,7 +5,7 @@ ghost use lib.ListN.{length};
 ghost use mathlib.Core.Bool.{true};
 ghost use Rattle.layout.specs.Layout.{cells, demandLength};
 ghost use Rattle.refusals.specs.Checks.{answer};
-ghost use Rattle.corridor.specs.Acceptance.{stateLengthsFit, stateNumbers};
+ghost use Rattle.corridor.specs.Acceptance.{stateLengthsFit, stateNumbers, demandNumbers};
 ghost use Rattle.period.specs.Period.{PeriodDone, RowDone};
 ghost use Rattle.layout.specs.Sheet.{sheetLength};
 
@@ -31,16 +31,23 @@ pub fn period(table: &[u32], state: &mut [u32], demand: &[u32], sheet: &mut [u32
     Answer::Accepted
 }
 
-// One row of a run, whose table and state are accepted already: numbers 6 and 7, and its period where they pass.
-pub fn run_row(table: &[u32], state: &mut [u32], row: &[u32], sheet: &mut [u32]) -> Answer
+// One row of a run, whose table and state are accepted already, with the answer of 6 and 7: its period where they pass; else every list
+// stays as it came.
+pub fn run_row(
+    checked: Answer,
+    table: &[u32],
+    state: &mut [u32],
+    row: &[u32],
+    sheet: &mut [u32],
+) -> Answer
     requires { ⌜ stateLengthsFit (now table) (now state) ≡ true ⌝ }
     requires { ⌜ length (now row) ≡ demandLength (cells (now table)) ⌝ }
     requires { ⌜ length (now sheet) ≡ sheetLength (cells (now table)) ⌝ }
     requires { ⌜ answer (stateNumbers (now table) (now state)) ≡ Answer.Accepted ⌝ }
+    requires { ⌜ checked ≡ answer (demandNumbers (now table) (now state) (now row)) ⌝ }
     ensures { λ r. ⌜ RowDone (now (table .entry)) (now (state .entry)) (now (row .entry)) (now (sheet .entry)) r (now (state .exit)) (now (sheet .exit)) ⌝ }
 {
-    let found = corridor::accept_demand(table, state, row);
-    if let Answer::Refused(refusal) = found {
+    if let Answer::Refused(refusal) = checked {
         return Answer::Refused(refusal);
     }
     steps::move_on(table, state, row, sheet);

@@ -14,7 +14,8 @@ use Rattle.layout.specs.Layout.{cells, stateLength}
 use Rattle.refusals.specs.Checks.{Check, answer}
 use Rattle.corridor.specs.Acceptance.{tableLengthFits, stateInRange, bothTables, bothTablesChecks, stateAloneChecks}
 use Rattle.refusals.proofs.Answers.{length-fails, length-fits-too, lengths-passed, refused-stays, accepted-goes-on, accepted-passes, accepted-both}
-use Rattle.corridor.proofs.Ranges.{both-hold, cells-fit}
+use Rattle.whole.proofs.Tests.{both-hold}
+use Rattle.corridor.proofs.Lengths.{cells-fit}
 use Rattle.recut.specs.Recut.{newState, recutListsFit, piecesNumbers, recutChecks, Cut, RecutDone}
 
 module _ (old state pieces new list : List ℕ) where

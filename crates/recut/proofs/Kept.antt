@@ -18,9 +18,10 @@ use Rattle.refusals.specs.declared.Answer.the-variants.{Accepted}
 use Rattle.layout.specs.Layout.{cells, rowAt, stateLength, entryQueue, countAt, queueAt}
 use Rattle.corridor.specs.Vehicles.{vehicles, atOnRamp, atOffRamp, present, rampsTo, ramps}
 use Rattle.refusals.specs.Checks.{answer}
-use Rattle.corridor.specs.Acceptance.{withRamp, queueLimit, tableNumbers, stateInRange, stateNumbers}
+use Rattle.ranges.specs.Ranges.{withRamp, queueLimit}
+use Rattle.corridor.specs.Acceptance.{tableNumbers, stateInRange, stateNumbers}
 use Rattle.refusals.proofs.Answers.{both-accepted, passes-accepted}
-use Rattle.corridor.proofs.Ranges.{both-hold}
+use Rattle.whole.proofs.Tests.{both-hold}
 use Rattle.layout.proofs.States.{laid-length, laid-entry, laid-count, laid-queue}
 use Rattle.recut.specs.declared.Piece.{Piece}
 use Rattle.recut.specs.Pieces.{pieceCount, firstPiece, jamBefore, pieceAt}

@@ -55,7 +55,6 @@ fn cut(old: &[u32], state: &[u32], pieces: &[u32], new: &[u32], list: &mut [u32]
     let mut given = 0;
     let mut j = 0;
     while j < m {
-        let next = j + 1;
         let row = row_at(old, cell);
         let new_row = row_at(new, j);
         let vehicles = piece_vehicles(
@@ -75,7 +74,7 @@ fn cut(old: &[u32], state: &[u32], pieces: &[u32], new: &[u32], list: &mut [u32]
         piece = next_piece(pieces, piece, new_row.jam);
         cell = piece.cell;
         given = first_or_later(piece.number, 0, given + vehicles);
-        j = next;
+        j += 1;
     }
     set_entry_queue(list, entry_queue(state));
 }

@@ -18,7 +18,7 @@ use Rattle.layout.specs.Layout.{cells, stateLength, demandLength}
 use Rattle.refusals.specs.Checks.{answer}
 use Rattle.corridor.specs.Acceptance.{stateLengthsFit, stateNumbers, stateChecks}
 use Rattle.refusals.proofs.Answers.{length-fits-too, length-fails}
-use Rattle.corridor.proofs.Ranges.{both-hold}
+use Rattle.whole.proofs.Tests.{both-hold}
 use Rattle.period.specs.Sharing.{asymmetric}
 use Rattle.period.specs.Period.{sheetOf, stateAfter, RowDone}
 use Rattle.layout.specs.Sheet.{sheetLength}
@@ -81,9 +81,6 @@ pub part-is-row : (table demand : List ℕ) (k : ℕ) {at width : ℕ} → width
 part-is-row table demand k {at} {width} e f =
     let same : at + width - at ≡ width = omega arith in
     ap (λ n. take n (drop at demand)) same ∙ rw (f, e)
-
-is-accepted : (a : Answer) → a ≡ Accepted → isAccepted a ≡ true
-is-accepted a e = rw e
 
 is-refused : (a : Answer) (refusal : Refusal) → a ≡ Refused refusal → isAccepted a ≡ false
 is-refused a refusal e = rw e

@@ -7,7 +7,7 @@ use borrow.Author.Tests.{lt-ltb, le-leb, eq-eqb, ne-eqb, ltb-true, leb-true, eqb
 use lib.Dec.{leb, ltb, eqb}
 use Rattle.whole.specs.Search.{pick}
 use Rattle.digits.specs.Lines.{LF, CR, COMMA, DIGIT}
-use Rattle.scans.proofs.Tests.{both}
+use Rattle.whole.proofs.Tests.{both-hold}
 use Rattle.scans.specs.Scans.{LARGEST, LONGEST, isDigit, atStart, longer, inNumber, feed}
 use Rattle.scans.specs.declared.Scan.{Scan}
 use Rattle.scans.specs.declared.Scan.the-variants.{Start, Number, Return}
@@ -30,8 +30,8 @@ fed fields (Start f y) b = by (isDigit b && ltb y LONGEST) refl
   where
     by : (t : Bool) → (isDigit b && ltb y LONGEST) ≡ t → Fed fields (Start f y) b (pick t (More (Number f (y + 1) (b - DIGIT))) Breaks)
     by true e =
-        let parts = both (isDigit b) (ltb y LONGEST) e in
-        let digit = both (leb 48 b) (leb b 57) (parts .0) in
+        let parts = both-hold (isDigit b) (ltb y LONGEST) e in
+        let digit = both-hold (leb 48 b) (leb b 57) (parts .0) in
         first-digit (leb-true 48 b (digit .0)) (leb-true b 57 (digit .1)) (ltb-true y 16384 (parts .1))
     by false e = breaks
 fed fields (Number f y v) b = by (isDigit b) refl
@@ -39,22 +39,22 @@ fed fields (Number f y v) b = by (isDigit b) refl
     longer-by : (t : Bool) → ((not (eqb v 0) && leb (v * 10 + (b - DIGIT)) LARGEST) && ltb y LONGEST) ≡ t → DIGIT ≤ b → b ≤ DIGIT + 9
         → Fed fields (Number f y v) b (pick t (More (Number f (y + 1) (v * 10 + (b - DIGIT)))) Breaks)
     longer-by true e low high =
-        let parts = both (not (eqb v 0) && leb (v * 10 + (b - DIGIT)) LARGEST) (ltb y LONGEST) e in
-        let number = both (not (eqb v 0)) (leb (v * 10 + (b - DIGIT)) LARGEST) (parts .0) in
+        let parts = both-hold (not (eqb v 0) && leb (v * 10 + (b - DIGIT)) LARGEST) (ltb y LONGEST) e in
+        let number = both-hold (not (eqb v 0)) (leb (v * 10 + (b - DIGIT)) LARGEST) (parts .0) in
         next-digit low high (eqb-false v 0 (not-true (eqb v 0) (number .0))) (leb-true (v * 10 + (b - DIGIT)) 4294967295 (number .1)) (ltb-true y 16384 (parts .1))
     longer-by false e low high = breaks
 
     return-by : (t : Bool) → (eqb b CR && eqb (f + 1) fields) ≡ t → Fed fields (Number f y v) b (pick t (Field f v Return) Breaks)
     return-by true e =
-        let parts = both (eqb b CR) (eqb (f + 1) fields) e in
+        let parts = both-hold (eqb b CR) (eqb (f + 1) fields) e in
         return (eqb-true b 13 (parts .0)) (eqb-true (f + 1) fields (parts .1))
     return-by false e = breaks
 
     comma-by : (t : Bool) → ((eqb b COMMA && ltb (f + 1) fields) && ltb y LONGEST) ≡ t
         → Fed fields (Number f y v) b (pick t (Field f v (Start (f + 1) (y + 1))) (pick (eqb b CR && eqb (f + 1) fields) (Field f v Return) Breaks))
     comma-by true e =
-        let parts = both (eqb b COMMA && ltb (f + 1) fields) (ltb y LONGEST) e in
-        let place = both (eqb b COMMA) (ltb (f + 1) fields) (parts .0) in
+        let parts = both-hold (eqb b COMMA && ltb (f + 1) fields) (ltb y LONGEST) e in
+        let place = both-hold (eqb b COMMA) (ltb (f + 1) fields) (parts .0) in
         comma (eqb-true b 44 (place .0)) (ltb-true (f + 1) fields (place .1)) (ltb-true y 16384 (parts .1))
     comma-by false e = return-by (eqb b CR && eqb (f + 1) fields) refl
 
@@ -64,7 +64,7 @@ fed fields (Number f y v) b = by (isDigit b) refl
         (pick ((eqb b COMMA && ltb (f + 1) fields) && ltb y LONGEST) (Field f v (Start (f + 1) (y + 1)))
         (pick (eqb b CR && eqb (f + 1) fields) (Field f v Return) Breaks)))
     by true e =
-        let digit = both (leb 48 b) (leb b 57) e in
+        let digit = both-hold (leb 48 b) (leb b 57) e in
         longer-by ((not (eqb v 0) && leb (v * 10 + (b - DIGIT)) LARGEST) && ltb y LONGEST) refl (leb-true 48 b (digit .0)) (leb-true b 57 (digit .1))
     by false e = comma-by ((eqb b COMMA && ltb (f + 1) fields) && ltb y LONGEST) refl
 fed fields Return b = by (eqb b LF) refl

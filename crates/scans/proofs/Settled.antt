@@ -4,6 +4,8 @@ use Rattle.scans.proofs.begin.Kinds as begin-kinds
 use Rattle.scans.proofs.begin.Reads as begin
 use Rattle.scans.proofs.feed.Kinds as feed-kinds
 use Rattle.scans.proofs.feed.Reads as feed
+use Rattle.scans.proofs.untouched.Kinds as untouched-kinds
+use Rattle.scans.proofs.untouched.Reads as untouched
 use Rattle.scans.proofs.field.is_digit.Kinds as is-digit-kinds
 use Rattle.scans.proofs.field.is_digit.Reads as is-digit
 use Rattle.scans.proofs.field.followed.Kinds as followed-kinds
@@ -14,6 +16,9 @@ begin-settles κs a y z e f = settled
 
 pub feed-settles : Settles _ feed-kinds.ps feed-kinds.r feed.Learnt
 feed-settles κs a y z e f = settled
+
+pub untouched-settles : Settles _ untouched-kinds.ps untouched-kinds.r untouched.Learnt
+untouched-settles κs a y z e f = settled
 
 pub is-digit-settles : Settles _ is-digit-kinds.ps is-digit-kinds.r is-digit.Learnt
 is-digit-settles κs a y z e f = settled

@@ -1,7 +1,7 @@
 // What one byte of a text does, by where the reading stands in its record: a record is read as a fold of this over its bytes, so that
 // a text may come in pieces of any size.
 ghost use mathlib.Core.Path.{_≡_};
-ghost use Rattle.scans.specs.Scans.{begin, feed};
+ghost use Rattle.scans.specs.Scans.{begin, feed, untouched};
 
 pub mod field;
 
@@ -75,5 +75,20 @@ pub fn feed(scan: Scan, byte: u8, fields: usize) -> Step
                 Step::Breaks
             }
         }
+    }
+}
+
+// Whether no byte of a record is read yet.
+pub fn untouched(scan: Scan) -> bool
+    ensures { λ r. ⌜ r ≡ untouched scan ⌝ }
+{
+    match scan {
+        Scan::Start { field, bytes: _ } => field == 0,
+        Scan::Number {
+            field: _,
+            bytes: _,
+            value: _,
+        } => false,
+        Scan::Return => false,
     }
 }

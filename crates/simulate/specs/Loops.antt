@@ -2,11 +2,12 @@
 -- from what the last one left.
 use Prim.Native.Nat.{ℕ}
 use mathlib.Core.Path.{_≡_}
+use mathlib.Core.Bool.{false}
 use mathlib.Core.List.{List, []}
 use lib.Seq.{sets}
 use Rattle.scans.specs.declared.Scan.{Scan}
 use Rattle.files.specs.Files.{fileOn}
-use Rattle.steps.specs.Demand.{over, Followed, follow, followEnd}
+use Rattle.steps.specs.Demand.{over, unfit, Followed, silent, follow, followEnd, runFits}
 use Rattle.steps.specs.Steps.{chunks, readFile, Leads}
 use Rattle.files.specs.declared.Reading.{Reading}
 use Rattle.files.specs.declared.File.{File}
@@ -38,13 +39,14 @@ FileRead (File.Holds n) fields list list′ = ChunksRead fields list (File.Holds
 FileRead (File.BrokenAt place) fields list list′ = ChunksRead fields list (File.BrokenAt place) list′
 FileRead File.Lost fields list list′ = Unit {0}
 
--- the last call for the demand: a record is refused, or the demand has ended
-pub data LastCall (table : List ℕ) (k : ℕ) (scan : Scan) (row state sheet left : List ℕ) (f : Followed) : Type 0 where
-  refuses : (room : ℕ) → f ≡ follow table room k scan row state sheet left → f .how ≡ over → LastCall table k scan row state sheet left f
-  ends : left ≡ [] → f ≡ followEnd table k scan row state sheet → LastCall table k scan row state sheet left f
+-- the last call for the demand: a record is refused, or the demand has ended; or the lists are not those of a run, and stay as they are
+pub data LastCall (table : List ℕ) (k : ℕ) (scan : Scan) (row state sheet left out : List ℕ) (f : Followed) : Next → Type 0 where
+  refuses : (room : ℕ) → f ≡ follow table room k scan row state sheet left → f .how ≡ over → LastCall table k scan row state sheet left out f Over
+  ends : left ≡ [] → f ≡ followEnd table k scan row state sheet → LastCall table k scan row state sheet left out f Over
+  unfits : runFits table state row sheet out ≡ false → f ≡ silent unfit row state sheet → LastCall table k scan row state sheet left out f Unfit
 
 -- the calls lead to the last one; its lines stand at the start of the output
-pub record Closes (table : List ℕ) (k : ℕ) (scan : Scan) (row state sheet left : List ℕ) (pieces : List (List ℕ)) (row′ state′ sheet′ out′ : List ℕ) : Type 0 where
+pub record Closes (next : Next) (table : List ℕ) (k : ℕ) (scan : Scan) (row state sheet left : List ℕ) (pieces : List (List ℕ)) (row′ state′ sheet′ out′ : List ℕ) : Type 0 where
   pub k₁ : ℕ
   pub scan₁ : Scan
   pub row₁ : List ℕ
@@ -54,7 +56,7 @@ pub record Closes (table : List ℕ) (k : ℕ) (scan : Scan) (row state sheet le
   pub out₁ : List ℕ
   pub leads : Leads table k scan row state sheet left pieces k₁ scan₁ row₁ state₁ sheet₁ left₁
   pub f : Followed
-  pub last : LastCall table k₁ scan₁ row₁ state₁ sheet₁ left₁ f
+  pub last : LastCall table k₁ scan₁ row₁ state₁ sheet₁ left₁ out₁ f next
   pub leavesRow : row′ ≡ f .row
   pub leavesState : state′ ≡ f .state
   pub leavesSheet : sheet′ ≡ f .sheet
@@ -63,10 +65,10 @@ pub record Closes (table : List ℕ) (k : ℕ) (scan : Scan) (row state sheet le
 -- how the demand goes on over these chunks
 abbrev pub Goes : Next → List ℕ → ℕ → Scan → List ℕ → List ℕ → List ℕ → List ℕ → List (List ℕ) → List ℕ → List ℕ → List ℕ → List ℕ → Type 0
 Goes (On k′ scan′) table k scan row state sheet left pieces row′ state′ sheet′ out′ = Leads table k scan row state sheet left pieces k′ scan′ row′ state′ sheet′ []
-Goes Over table k scan row state sheet left pieces row′ state′ sheet′ out′ = Closes table k scan row state sheet left pieces row′ state′ sheet′ out′
+Goes Over table k scan row state sheet left pieces row′ state′ sheet′ out′ = Closes Over table k scan row state sheet left pieces row′ state′ sheet′ out′
 Goes Lost table k scan row state sheet left pieces row′ state′ sheet′ out′ = (row′ ≡ row) × (state′ ≡ state) × (sheet′ ≡ sheet)
 Goes Shut table k scan row state sheet left pieces row′ state′ sheet′ out′ = Unit {0}
-Goes Unfit table k scan row state sheet left pieces row′ state′ sheet′ out′ = Unit {0}
+Goes Unfit table k scan row state sheet left pieces row′ state′ sheet′ out′ = Closes Unfit table k scan row state sheet left pieces row′ state′ sheet′ out′
 
 -- and over the chunks that reads bring
 pub record GoesOn (next : Next) (table : List ℕ) (k : ℕ) (scan : Scan) (row state sheet row′ state′ sheet′ out′ : List ℕ) : Type 0 where

@@ -78,6 +78,14 @@ fn pass_on(out: &[u8], at: usize) -> bool {
     false
 }
 
+// Passes the last lines on. The demand is over also where they cannot be written.
+fn pass_last(out: &[u8], at: usize) -> Next
+    ensures { λ r. ⌜ r ≡ Next.Over ⌝ }
+{
+    pass_on(out, at);
+    Next::Over
+}
+
 // Passes a line on.
 fn pass_line(line: Written, out: &[u8]) -> bool {
     match line {
@@ -179,13 +187,8 @@ fn follow_chunk(
                 k = period;
                 scan = next;
             }
-            Run::Over(at) => {
-                pass_on(out, at);
-                return Next::Over;
-            }
-            Run::Unfit => {
-                return Next::Unfit;
-            }
+            Run::Over(at) => return pass_last(out, at),
+            Run::Unfit => return Next::Unfit,
         }
     }
     Next::On { k, scan }
@@ -205,10 +208,7 @@ fn end_demand(
 {
     let run = demand::end(k, scan, table, state, row, sheet, out);
     match run {
-        Run::Over(at) => {
-            pass_on(out, at);
-            Next::Over
-        }
+        Run::Over(at) => pass_last(out, at),
         Run::On {
             read: _,
             k: _,

@@ -18,7 +18,8 @@ use Rattle.refusals.specs.declared.Refusal.{Refusal}
 use Rattle.layout.specs.Layout.{cells, demandLength}
 use Rattle.refusals.specs.Checks.{answer}
 use Rattle.corridor.specs.Acceptance.{stateChecks}
-use Rattle.corridor.proofs.Ranges.{both-hold}
+use Rattle.whole.proofs.Tests.{both-hold}
+use Rattle.corridor.proofs.Lengths.{cells-most}
 use Rattle.layout.specs.Sheet.{sheetLength}
 use Rattle.steps.specs.Lines.{lineWritten, afterLine}
 use Rattle.steps.specs.Turns.{Did, reads, ends, breaks, refuses, passes, didEnd, didText, turnOf, rowAnswer, linesOf, Turned, Ready}
@@ -27,7 +28,7 @@ use Rattle.steps.specs.declared.Run.{Run}
 use Rattle.steps.specs.declared.Run.the-variants.{Over, Unfit}
 use Rattle.steps.specs.declared.Turn.{Turn}
 use Rattle.steps.specs.declared.Turn.the-variants as Turn
-use Rattle.steps.proofs.Turning.{cells-most, accepted-fits, accepted-ready}
+use Rattle.steps.proofs.Turning.{accepted-fits, accepted-ready}
 
 -- a line at the start of an output
 

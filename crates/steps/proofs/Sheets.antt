@@ -28,26 +28,26 @@ use Rattle.steps.specs.Steps.{Follows, next-chunk, call, stop, end}
 use Rattle.steps.specs.declared.Run.the-variants.{On}
 use Rattle.steps.proofs.Texts.{counted-on, counted-most}
 
--- at most so many bytes are left, and of those given each period has used up one
+-- at most so many bytes are left, and of those given each period has used up one; that the lists are not those of a run is found before
 abbrev pub Within : ℕ → ℕ → ℕ → How → Type 0
 Within k most given (later k′ scan left) = (left ≤ most) × (k′ + left ≤ k + given)
 Within k most given over = Unit {0}
-Within k most given unfit = Unit {0}
+Within k most given unfit = ⊥
 
 within-more : (k most given : ℕ) (how : How) → Within k most given how → Within k (suc most) given how
 within-more k most given (later k′ scan left) h = (omega (arith, h .0), h .1)
 within-more k most given over h = tt
-within-more k most given unfit h = tt
+within-more k most given unfit h = h
 
 within-read : (k most given : ℕ) (how : How) → Within k most given how → Within k most (suc given) how
 within-read k most given (later k′ scan left) h = (h .0, omega (arith, h .1))
 within-read k most given over h = tt
-within-read k most given unfit h = tt
+within-read k most given unfit h = h
 
 within-next : (k most given : ℕ) (how : How) → Within (counted k) most given how → Within k most (suc given) how
 within-next k most given (later k′ scan left) h = (h .0, omega (arith, h .1, counted-most k))
 within-next k most given over h = tt
-within-next k most given unfit h = tt
+within-next k most given unfit h = h
 
 module _ (table : List ℕ) where
   abbrev fields : ℕ
@@ -99,7 +99,7 @@ module _ (table : List ℕ) where
       read-some : (how : How) {k′ at : ℕ} {scan′ : Scan} → Within k (length rest) (suc (length rest)) how → On read k′ scan′ at ≡ runOf how (suc (length rest)) written → (0 < read) × (read ≤ suc (length rest))
       read-some (later k″ s left) h e = let same : read ≡ suc (length rest) - left = cc in (omega (arith, h .0), omega (arith, h .0))
       read-some over h e = absurd (let z : _≡_ {A = ℕ} 0 1 = cc in omega arith)
-      read-some unfit h e = absurd (let z : _≡_ {A = ℕ} 0 1 = cc in omega arith)
+      read-some unfit h e = absurd h
 
       by : (fits : Bool) {k′ at : ℕ} {scan′ : Scan} → On read k′ scan′ at ≡ runOf (ifFits fits row state sheet (follow table (length out) k scan row state sheet (byte ∷ rest)) .how) (suc (length rest)) written → (0 < read) × (read ≤ suc (length rest))
       by true e = read-some (follow table (length out) k scan row state sheet (byte ∷ rest) .how) (byte-within (length out) k scan row state sheet byte rest (λ room k scan row state sheet. follow-within room k scan row state sheet rest)) e

@@ -1,5 +1,5 @@
 -- A turn: from the answer of a demand row to what is written and left. Assumes nothing.
-use Prim.Native.Nat.{ℕ, _+_, _≤_, _<_}
+use Prim.Native.Nat.{ℕ, _+_, _<_}
 use mathlib.Core.Path.{_≡_, refl, sym, ap, _∙_}
 use mathlib.Core.Bool.{true}
 use mathlib.Core.List.{List, []}
@@ -16,9 +16,8 @@ use Rattle.refusals.specs.declared.Answer.{Answer}
 use Rattle.refusals.specs.declared.Answer.the-variants.{Accepted, Refused}
 use Rattle.layout.specs.Layout.{cells, demandLength}
 use Rattle.refusals.specs.Checks.{answer, lengths}
-use Rattle.corridor.specs.Acceptance.{tableLengthFits, stateLengthsFit, stateNumbers, stateChecks}
+use Rattle.corridor.specs.Acceptance.{stateLengthsFit, stateNumbers, stateChecks}
 use Rattle.refusals.proofs.Answers.{accepted-passes}
-use Rattle.corridor.proofs.Ranges.{both-hold, cells-fit}
 use Rattle.period.specs.Sharing.{asymmetric}
 use Rattle.period.specs.Period.{sheetOf, stateAfter, RowDone}
 use Rattle.layout.specs.Sheet.{sheetLength}
@@ -32,10 +31,6 @@ use Rattle.steps.specs.Lines.{periodText, stopText}
 use Rattle.steps.specs.Turns.{Did, breaks, didRow, did, didText, turnOf, whenPassed, rowAnswer, linesOf, Turned, Ready, Onward}
 use Rattle.steps.specs.declared.Turn.{Turn}
 use Rattle.steps.specs.declared.Turn.the-variants.{Period, Over}
-
--- an accepted table has at most 512 cells
-pub cells-most : (table state : List ℕ) → stateLengthsFit table state ≡ true → cells table ≤ 512
-cells-most table state fits = cells-fit table (both-hold (tableLengthFits table) _ fits .0) .most
 
 module _ (k next : ℕ) (table state row sheet out : List ℕ) (at : ℕ) {a : Answer} {stateLeft sheetLeft outLeft : List ℕ} {end : ℕ} (done : RowDone table state row sheet a stateLeft sheetLeft) where
   pub row-runs : {n : ℕ} → a ≡ Accepted → n ≡ cells table → end ≡ at + length (periodText k n stateLeft sheetLeft) → outLeft ≡ sets out at (periodText k n stateLeft sheetLeft)

@@ -73,18 +73,14 @@ fn follow_run(
         }
         let turn = turn(chunk, from, scan, k, table, state, row, sheet, out, at);
         match turn {
-            Turn::Part { scan: next, at: to } => {
-                return stands(chunk.len(), k, next, to);
-            }
+            Turn::Part { scan: next, at: to } => return stands(chunk.len(), k, next, to),
             Turn::Period { next, at: to } => {
                 from = next;
                 at = to;
                 scan = scans::begin();
                 k = counted(k);
             }
-            Turn::Over(to) => {
-                return Run::Over(to);
-            }
+            Turn::Over(to) => return Run::Over(to),
         }
     }
     stands(chunk.len(), k, scan, at)

@@ -32,7 +32,8 @@ fn run_row(
     requires { ⌜ at + 149 * (cells (now table) + 1) ≤ length (now out) ⌝ }
     ensures { λ r. ⌜ Turned (didRow (rowAnswer (now (table .entry)) (now (state .entry)) (now (row .entry))) next) k (now (table .entry)) (now (state .entry)) (now (row .entry)) (now (sheet .entry)) (now (out .entry)) at r (now (state .exit)) (now (sheet .exit)) (now (out .exit)) ⌝ }
 {
-    let answer = period::run_row(table, state, row, sheet);
+    let checked = corridor::accept_demand(table, state, row);
+    let answer = period::run_row(checked, table, state, row, sheet);
     match answer {
         Answer::Accepted => Turn::Period {
             next,

@@ -9,7 +9,7 @@ use lib.Dec.{leb}
 use lib.ListN.{length, getD, drop, set}
 use Rattle.digits.proofs.Stores.{rest-of}
 use Rattle.digits.specs.Lines.{COMMA, DIGIT}
-use Rattle.scans.proofs.Tests.{both}
+use Rattle.whole.proofs.Tests.{both-hold}
 use Rattle.scans.proofs.Fed.{feeds-comma}
 use Rattle.scans.specs.Scans.{LONGEST, isDigit, atStart, longer, inNumber, feed}
 use Rattle.text.specs.Reads.{readOf, readOn, rowOf, rowOn}
@@ -69,7 +69,7 @@ module _ (chunk : List ℕ) (at field bytes : ℕ) (h : at < length chunk) (room
       (rw is (feeds-comma fields field bytes value more room))
 
 pub is-digit : (byte : ℕ) → isDigit byte ≡ true → (DIGIT ≤ byte) × (byte ≤ DIGIT + 9)
-is-digit byte e = let parts = both (leb 48 byte) (leb byte 57) e in (leb-true 48 byte (parts .0), leb-true byte 57 (parts .1))
+is-digit byte e = let parts = both-hold (leb 48 byte) (leb byte 57) e in (leb-true 48 byte (parts .0), leb-true byte 57 (parts .1))
 
 -- Digits after the first, one after the other.
 

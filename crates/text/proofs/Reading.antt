@@ -8,7 +8,6 @@ use native.Mathlib.Omega.{arith}
 use lib.ListN.{length, getD, drop, set, length-set, drop-of-length-le}
 use lib.Seq.{sets}
 use Rattle.digits.proofs.Stores.{rest-of}
-use Rattle.digits.specs.Lines.{CR}
 use Rattle.scans.specs.Scans.{begin, atStart, feed, untouched, ended}
 use Rattle.text.specs.Reads.{readOf, readOn, rowOf, rowOn, endOf, textFrom, textOn, numbersFrom, numbersOn, held, numbers}
 use Rattle.scans.specs.declared.Scan.{Scan}
@@ -196,9 +195,7 @@ module _ {fields : ℕ} {text list₀ : List ℕ} {scan : Scan} {place i : ℕ} 
   unfolding numbersFrom
   store-breaks {step} here h e is = rw is at (store-byte here h step e)
 
-  pub store-ends : (step : Step) → Storing fields text list₀ scan place i list → length text ≤ i → step ≡ feed scan CR fields
-      → sets list place (numbersFrom step (λ next. []) []) ≡ sets list₀ 0 (numbers fields text)
-  unfolding numbersOn
-  store-ends step here h e =
+  pub store-ends : Storing fields text list₀ scan place i list → length text ≤ i → sets list place (numbersOn fields scan []) ≡ sets list₀ 0 (numbers fields text)
+  store-ends here h =
       let none : drop i text ≡ [] = drop-of-length-le text h in
-      rw (none, ← e) at (here .stores)
+      rw none at (here .stores)

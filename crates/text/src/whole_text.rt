@@ -1,9 +1,10 @@
 // A whole text at once: checked first, then stored, so that a refusal has stored nothing.
 ghost use mathlib.Core.Path.{_≡_};
+ghost use mathlib.Core.List.{[]};
 ghost use lib.Seq.{sets};
 ghost use Rattle.whole.specs.Search.{pick};
 ghost use Rattle.scans.specs.Scans.{untouched, ended};
-ghost use Rattle.text.specs.Reads.{held, numbers, fit, one};
+ghost use Rattle.text.specs.Reads.{held, numbers, numbersOn, fit, one};
 use crate::Text;
 use crate::store::put;
 use scans::End;
@@ -16,14 +17,10 @@ use scans::feed;
 pub(crate) fn unfinished(scan: Scan) -> End
     ensures { λ r. ⌜ r ≡ pick (untouched scan) End.Nothing End.Cut ⌝ }
 {
-    match scan {
-        Scan::Start { field, bytes: _ } => { if field == 0 { End::Nothing } else { End::Cut } }
-        Scan::Number {
-            field: _,
-            bytes: _,
-            value: _,
-        } => End::Cut,
-        Scan::Return => End::Cut,
+    if scans::untouched(scan) {
+        End::Nothing
+    } else {
+        End::Cut
     }
 }
 
@@ -83,6 +80,23 @@ pub(crate) fn check_text(text: &[u8], fields: usize) -> Text
     }
 }
 
+// Stores the number of a last record that ends with the text.
+fn store_last(scan: Scan, fields: usize, list: &mut [u32], place: usize)
+    ensures { λ _. ⌜ now (list .exit) ≡ sets (now (list .entry)) place (numbersOn fields scan []) ⌝ }
+{
+    let step = feed(scan, b'\r', fields);
+    match step {
+        Step::Field {
+            field: _,
+            number,
+            next: _,
+        } => put(list, place, number),
+        Step::More(_) => {}
+        Step::Complete => {}
+        Step::Breaks => {}
+    }
+}
+
 // Stores the numbers of a text from the list's start on.
 pub(crate) fn store_text(text: &[u8], fields: usize, list: &mut [u32])
     ensures { λ _. ⌜ now (list .exit) ≡ sets (now (list .entry)) 0 (numbers fields (now (text .entry))) ⌝ }
@@ -115,17 +129,7 @@ pub(crate) fn store_text(text: &[u8], fields: usize, list: &mut [u32])
             }
         }
     }
-    let step = feed(scan, b'\r', fields);
-    match step {
-        Step::Field {
-            field: _,
-            number,
-            next: _,
-        } => put(list, place, number),
-        Step::More(_) => {}
-        Step::Complete => {}
-        Step::Breaks => {}
-    }
+    store_last(scan, fields, list, place);
 }
 
 // Whether the text's numbers have room in a list.

@@ -1,3 +1,4 @@
+pub mod Tests
 pub mod Shares
 pub mod Lists
 pub mod Columns

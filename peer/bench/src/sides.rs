@@ -1,4 +1,4 @@
-//! The library's functions: the proved ones, the model's and the C yardstick's run.
+//! The library's functions: the proved ones, the model's, and for a run the two yardsticks: in C by columns, and in Rust by indexes.
 
 use std::hint::black_box;
 use std::time::Duration;
@@ -9,14 +9,17 @@ use model::{read_whole, sheet_length, state_length, Face, Model, RunAnswer, Sett
 use crate::programs::EXAMPLE;
 use crate::timing::{best, print_table, ratio, time, Work};
 
-/// A run as the model and the yardstick have it.
+/// A run as the model and the yardsticks have it.
 type Run = fn(&[u32], &mut [u32], &[u32], &mut [u32]) -> RunAnswer;
 
-/// The times of the model, the proved library and the yardstick.
+/// The times of the model, the proved library, the run in C and the run by indexes.
 type Times = Vec<Option<Duration>>;
 
-/// The work that each of the three does.
-type Works = [Option<Work<'static>>; 3];
+/// The work that each of the four does.
+type Works = [Option<Work<'static>>; 4];
+
+/// Their names for `--repeat`.
+const SIDES: [&str; 4] = ["rust", "proved", "c", "indexed"];
 
 /// A piece of work with its set-up: what is timed, and what is counted.
 #[derive(Clone, Copy)]
@@ -63,11 +66,10 @@ impl Job {
     }
 }
 
-/// Does a job so many times on one side: `rust`, `proved` or `c`. Nothing is timed: what is run between the first call and
-/// the last is for another program to count.
+/// Does a job so many times on one of the sides. Nothing is timed: what is run between the first call and the last is for
+/// another program to count.
 pub fn repeat(job: &str, side: &str, calls: usize) -> Result<(), String> {
-    let sides = ["rust", "proved", "c"];
-    let at = sides.iter().position(|name| *name == side).ok_or(format!("{side} is not one of {}", sides.join(", ")))?;
+    let at = SIDES.iter().position(|name| *name == side).ok_or(format!("{side} is not one of {}", SIDES.join(", ")))?;
     let job = Job::named(job).ok_or(format!("{job} is no job"))?;
     let mut work = job.works()[at].take().ok_or(format!("{side} does not do this, or is not linked"))?;
     (0..calls).for_each(|_| work());
@@ -88,8 +90,10 @@ pub fn measure(rounds: usize) {
             time(times[0]),
             time(times[1]),
             time(times[2]),
+            time(times[3]),
             ratio(times[1], times[0]),
             ratio(times[1], times[2]),
+            ratio(times[1], times[3]),
         ]);
     };
     add("run, 41 cells, 4,096 periods", Job::ExampleRun(4_096));
@@ -98,7 +102,7 @@ pub fn measure(rounds: usize) {
     add("4,096 calls of period, 512 cells", Job::Periods(512, 4_096));
     add("re-cut, 128 cells into 512", Job::Recut);
     add("calibration, 65,536 samples", Job::Calibration);
-    let heads = ["one call", "Rust", "proved", "C", "proved / Rust", "proved / C"];
+    let heads = ["one call", "Rust", "proved", "C", "by indexes", "proved / Rust", "proved / C", "proved / by indexes"];
     print_table("Best of the rounds, the sides in turn", &heads, &rows);
 
     let heads = ["run", "Rust", "proved", "C", "Rust per cell and period", "proved", "C"];
@@ -166,8 +170,9 @@ fn run_works(case: &Corridor) -> Works {
         let answer = run(&case.table, &mut state, &case.demand, &mut sheet);
         (answer, state, sheet)
     };
-    let (with_model, with_c) = (ends(model::run), ends(yardstick::run));
-    assert!(with_model == with_c, "the yardstick does what the model does");
+    let with_model = ends(model::run);
+    assert!(with_model == ends(yardstick::run), "the run in C does what the model does");
+    assert!(with_model == ends(model::run_indexed), "the run by indexes does what the model does");
 
     let [rust, proved] = through(|face| {
         let Corridor { table, state, demand, sheet, periods } = case.clone();
@@ -177,13 +182,15 @@ fn run_works(case: &Corridor) -> Works {
             black_box(face.run(black_box(&table), &mut moving, black_box(&demand), &mut sheet, &mut periods));
         })
     });
-    let Corridor { table, state, demand, mut sheet, .. } = case.clone();
-    let mut moving = state.clone();
-    let in_c: Work = Box::new(move || {
-        moving.copy_from_slice(&state);
-        let _ = black_box(yardstick::run(black_box(&table), &mut moving, black_box(&demand), &mut sheet));
-    });
-    [rust, proved, Some(in_c)]
+    let by = |run: Run| -> Work {
+        let Corridor { table, state, demand, mut sheet, .. } = case.clone();
+        let mut moving = state.clone();
+        Box::new(move || {
+            moving.copy_from_slice(&state);
+            let _ = black_box(run(black_box(&table), &mut moving, black_box(&demand), &mut sheet));
+        })
+    };
+    [rust, proved, Some(by(yardstick::run)), Some(by(model::run_indexed))]
 }
 
 fn period_works(case: &Corridor) -> Works {
@@ -197,7 +204,7 @@ fn period_works(case: &Corridor) -> Works {
             }
         })
     });
-    [rust, proved, None]
+    [rust, proved, None, None]
 }
 
 fn recut_works(case: &Recut) -> Works {
@@ -214,7 +221,7 @@ fn recut_works(case: &Recut) -> Works {
             ));
         })
     });
-    [rust, proved, None]
+    [rust, proved, None, None]
 }
 
 fn calibration_works(case: &Calibrate) -> Works {
@@ -225,5 +232,5 @@ fn calibration_works(case: &Calibrate) -> Works {
             black_box(face.calibrate(black_box(&flow), black_box(&occupancy), &settings, &mut diagram, &mut row));
         })
     });
-    [rust, proved, None]
+    [rust, proved, None, None]
 }

@@ -16,7 +16,7 @@ mod text;
 pub use calibration::{calibrate, fit, row_values, Cause, Diagram, RowValues, Sample, Settings};
 pub use corridor::{accept_row, accept_state, accept_table};
 pub use face::{Face, Model};
-pub use period::{period, run, RunAnswer};
+pub use period::{period, run, run_indexed, RunAnswer};
 pub use program::{simulate, simulate_with, File};
 pub use recut::recut;
 pub use refusal::{Answer, Refusal};

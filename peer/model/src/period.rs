@@ -74,6 +74,46 @@ pub(crate) fn step(rows: Rows, state: &mut [u32], demand: &[u32], sheet: &mut [u
     }
 }
 
+/// The same as [`step`], each number by its index in its list: what this takes more is what testing the indexes costs.
+pub(crate) fn step_indexed(rows: Rows, state: &mut [u32], demand: &[u32], sheet: &mut [u32]) {
+    let n = rows.len();
+    let room = |cell: &Cell, count: u32| part(cell.w, cell.jam - count);
+
+    let waiting = state[0] + demand[0];
+    sheet[0] = waiting.min(room(&Cell::of(&rows[0]), state[1]));
+    state[0] = waiting - sheet[0];
+    for i in 0..n {
+        let cell = Cell::of(&rows[i]);
+        let count = state[1 + i];
+        let mut most = cell.capacity;
+        if i + 1 < n {
+            most = most.min(room(&Cell::of(&rows[i + 1]), state[2 + i]));
+        }
+
+        let ready = part(cell.v, count);
+        let (wanted, off_flow);
+        if cell.b == 0 {
+            off_flow = demand[1 + n + i].min(ready);
+            wanted = ready - off_flow;
+        } else {
+            wanted = part(ONE - cell.b, ready);
+            let flow = u64::from(wanted.min(most));
+            let split = flow * u64::from(cell.b) / u64::from(ONE - cell.b);
+            off_flow = split.min(u64::from(count) - flow) as u32;
+        }
+        let flow = wanted.min(most);
+
+        let waiting = state[1 + n + i] + demand[1 + i];
+        let on_flow = waiting.min(part(cell.x, cell.jam - count)).min(cell.c);
+        state[1 + i] = count + sheet[i] + on_flow - flow - off_flow;
+        state[1 + n + i] = waiting - on_flow;
+        sheet[1 + i] = flow;
+        sheet[1 + n + i] = off_flow;
+        sheet[1 + 2 * n + i] = on_flow;
+        sheet[1 + 3 * n + i] = u32::from(wanted >= most);
+    }
+}
+
 /// One period: accepts table, state and row (numbers 1 to 7), then moves the state and writes the flow sheet.
 pub fn period(table: &[u32], state: &mut [u32], demand: &[u32], sheet: &mut [u32]) -> Answer {
     let rows = rows(table)?;
@@ -98,12 +138,37 @@ pub struct RunAnswer {
 ///
 /// Refused at a later row, it leaves the state after the completed periods and the last completed period's sheet.
 pub fn run(table: &[u32], state: &mut [u32], demand: &[u32], sheet: &mut [u32]) -> RunAnswer {
+    run_by(step, table, state, demand, sheet)
+}
+
+/// The same run by [`step_indexed`].
+pub fn run_indexed(table: &[u32], state: &mut [u32], demand: &[u32], sheet: &mut [u32]) -> RunAnswer {
+    run_by(step_indexed, table, state, demand, sheet)
+}
+
+/// A run whose accepted rows are taken by `step`.
+#[inline]
+fn run_by(
+    step: impl Fn(Rows, &mut [u32], &[u32], &mut [u32]),
+    table: &[u32],
+    state: &mut [u32],
+    demand: &[u32],
+    sheet: &mut [u32],
+) -> RunAnswer {
     let mut periods = 0;
-    let answer = run_counting(table, state, demand, sheet, &mut periods);
+    let answer = run_counting(step, table, state, demand, sheet, &mut periods);
     RunAnswer { periods, answer }
 }
 
-fn run_counting(table: &[u32], state: &mut [u32], demand: &[u32], sheet: &mut [u32], periods: &mut u32) -> Answer {
+#[inline]
+fn run_counting(
+    step: impl Fn(Rows, &mut [u32], &[u32], &mut [u32]),
+    table: &[u32],
+    state: &mut [u32],
+    demand: &[u32],
+    sheet: &mut [u32],
+    periods: &mut u32,
+) -> Answer {
     let rows = rows(table)?;
     let row_length = state_length(rows.len());
     shape(state.len() == row_length)?;

@@ -2,7 +2,7 @@
 use mathlib.Core.Path.{sym, _∙_}
 use borrow.Author.Tests.{not-false}
 use borrow.Author.Needs.{needs}
-use Rattle.corridor.proofs.Ranges.{row-lengths}
+use Rattle.corridor.proofs.Lengths.{row-lengths}
 use Rattle.refusals.proofs.Answers.{lengths-fail, lengths-fit, refused-stays, accepted-goes-on}
 use Rattle.corridor.specs.Acceptance.{stateNumbers, demandNumbers}
 use Rattle.corridor.proofs.accept_row.Statement.{statement}

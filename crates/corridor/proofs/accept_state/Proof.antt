@@ -2,7 +2,7 @@
 use mathlib.Core.Path.{sym, _∙_}
 use borrow.Author.Tests.{not-false}
 use borrow.Author.Needs.{needs}
-use Rattle.corridor.proofs.Ranges.{state-length}
+use Rattle.corridor.proofs.Lengths.{state-length}
 use Rattle.refusals.proofs.Answers.{lengths-fail, lengths-fit}
 use Rattle.corridor.proofs.accept_state.Statement.{statement}
 use Rattle.corridor.proofs.accept_state.Tie as tie

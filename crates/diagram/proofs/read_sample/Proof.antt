@@ -2,7 +2,7 @@
 use mathlib.Core.Path.{sym, ap₂}
 use mathlib.Core.Bool.{_&&_}
 use borrow.Author.Needs.{needs}
-use Rattle.corridor.proofs.Ranges.{both-hold}
+use Rattle.whole.proofs.Tests.{both-hold}
 use Rattle.diagram.specs.declared.Sample.the-variants.{Good}
 use Rattle.diagram.specs.Samples.{sampleOf, density}
 use Rattle.diagram.proofs.Tests.{fails, holds, flow-is-finite, occupancy-is-finite}

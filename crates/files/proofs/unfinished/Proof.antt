@@ -6,10 +6,10 @@ use Rattle.files.proofs.unfinished.Statement.{statement}
 use Rattle.files.proofs.unfinished.Tie as tie
 
 returns : tie.Need-returns
-returns c = rw (sym (c .before .between .ensures), c .if1 .taken)
+returns c = rw (sym (c .before .untouched .ensures), c .if1 .taken)
 
 returns-2 : tie.Need-returns-2
-returns-2 c = rw (sym (c .before .before .between .ensures), c .before .if1 .left) (ap BrokenAt (c .counted .ensures))
+returns-2 c = rw (sym (c .before .before .untouched .ensures), c .before .if1 .left) (ap BrokenAt (c .counted .ensures))
 
 pub unfinished-spec : {M : Type 1} → statement M
 unfinished-spec =

@@ -76,7 +76,6 @@ cut-spec =
     (λ c κs. search needs)
     (λ c κs. search needs)
     loop-holds
-    (λ c. search needs)
     row-at-requires
     (λ c κs. search needs)
     count-at-requires
@@ -88,6 +87,7 @@ cut-spec =
     next-piece-requires
     add-first-or-later
     (λ c κs. search needs)
+    (λ c. search needs)
     loop-less
     loop-again
     (λ c κs. search needs)

@@ -31,7 +31,10 @@ loop-again : tie.Need-loop-again Inv-loop μ-loop
 loop-again c = (call-leads _ _ _ _ _ _ _ _ (c .before .before .before .before .before .before .before .before .before .before .before .before .before .before .before .before .before .before .before .before .before .loop .inv .0) _ _ (part-to-end (c .before .before .before .before .before .before .before .before .before .before .before .before .before .before .before .before .before .before .before .before .before .before .before .before .before .before .before .before .args .chunk .now) (c .before .before .before .before .before .before .before .before .before .before .before .before .before .before .before .before .before .before .before .before .before .loop .from)) (rw (c .before .before .before .before .run .given .1) at (c .before .before .before .before .before .before .before .before .before .before .before .before .before .before .follow .ensures)), omega arith, omega arith, omega arith, omega arith)
 
 returns-2 : tie.Need-returns-2 Inv-loop μ-loop
-returns-2 c = call-closes _ _ _ _ _ _ _ (c .before .before .before .before .before .before .before .before .before .before .before .before .before .before .before .before .before .before .before .before .loop .inv .0) _ _ (part-to-end (c .before .before .before .before .before .before .before .before .before .before .before .before .before .before .before .before .before .before .before .before .before .before .before .before .before .before .before .args .chunk .now) (c .before .before .before .before .before .before .before .before .before .before .before .before .before .before .before .before .before .before .before .before .loop .from)) (rw (c .before .before .before .run2 .given .1) at (c .before .before .before .before .before .before .before .before .before .before .before .before .before .follow .ensures))
+returns-2 c = rw (c .pass-last .ensures) (call-closes _ _ _ _ _ _ _ (c .before .before .before .before .before .before .before .before .before .before .before .before .before .before .before .before .before .before .before .before .loop .inv .0) _ _ (part-to-end (c .before .before .before .before .before .before .before .before .before .before .before .before .before .before .before .before .before .before .before .before .before .before .before .before .before .before .before .args .chunk .now) (c .before .before .before .before .before .before .before .before .before .before .before .before .before .before .before .before .before .before .before .before .loop .from)) (rw (c .before .before .before .run2 .given .1) at (c .before .before .before .before .before .before .before .before .before .before .before .before .before .follow .ensures)))
+
+returns-3 : tie.Need-returns-3 Inv-loop μ-loop
+returns-3 c = call-closes _ _ _ _ _ _ _ (c .before .before .before .before .before .before .before .before .before .before .before .before .before .before .before .before .before .loop .inv .0) _ _ (part-to-end (c .before .before .before .before .before .before .before .before .before .before .before .before .before .before .before .before .before .before .before .before .before .before .before .before .args .chunk .now) (c .before .before .before .before .before .before .before .before .before .before .before .before .before .before .before .before .before .loop .from)) (rw (c .enum-told .given .1) at (c .before .before .before .before .before .before .before .before .before .before .follow .ensures))
 
 returns-4 : tie.Need-returns-4 Inv-loop μ-loop
 returns-4 c = leads-to-its-end _ _ _ _ _ _ _ _ (c .before .loop .inv .0) (c .loop-test .left)
@@ -69,7 +72,7 @@ follow-chunk-spec =
     (λ c. omega arith)
     (λ c. omega arith)
     (λ c. omega arith)
-    (λ c. tt)
+    returns-3
     (λ c. omega arith)
     (λ c. omega arith)
     (λ c. omega arith)

@@ -4,7 +4,7 @@ use mathlib.Core.List.{[]}
 use native.Mathlib.Omega.{arith}
 use borrow.Author.Needs.{needs}
 use lib.ListN.{length}
-use Rattle.simulate.proofs.Going.{Stands, stands-first, stands-then, stands-still, closes-then}
+use Rattle.simulate.proofs.Going.{Stands, stands-first, stands-then, stands-still, closes-then, unfits-then}
 use Rattle.simulate.proofs.run_demand.Statement.{statement}
 use Rattle.simulate.proofs.run_demand.Tie as tie
 
@@ -31,7 +31,7 @@ returns-3 : tie.Need-returns-3 Inv-loop μ-loop
 returns-3 c = record { pieces = []; goes = tt }
 
 returns-4 : tie.Need-returns-4 Inv-loop μ-loop
-returns-4 c = record { pieces = []; goes = tt }
+returns-4 c = unfits-then _ _ _ _ (c .before .before .before .before .before .before .before .before .before .before .before .before .before .before .before .before .loop .inv .0) (rw (c .enum-told4 .given .1) at (c .before .before .before .before .before .before .before .before .before .before .follow-some .ensures))
 
 returns-5 : tie.Need-returns-5 Inv-loop μ-loop
 returns-5 c = record { pieces = c .before .loop .inv .0 .pieces; goes = c .before .loop .inv .0 .goes }

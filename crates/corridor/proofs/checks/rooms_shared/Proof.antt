@@ -3,7 +3,8 @@ use Prim.Native.Nat.{_-_}
 use mathlib.Core.Path.{_∙_, ap}
 use borrow.Author.Needs.{needs}
 use Rattle.whole.proofs.Search.{Searching, begins, goes-on, found, not-found}
-use Rattle.corridor.specs.Acceptance.{roomShared, roomsShared}
+use Rattle.ranges.specs.Ranges.{roomShared}
+use Rattle.corridor.specs.Acceptance.{roomsShared}
 use Rattle.corridor.proofs.checks.rooms_shared.Statement.{statement}
 use Rattle.corridor.proofs.checks.rooms_shared.Tie as tie
 

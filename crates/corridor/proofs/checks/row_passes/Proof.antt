@@ -5,7 +5,7 @@ use mathlib.Core.Bool.{_&&_}
 use borrow.Author.Needs.{needs}
 use Rattle.whole.proofs.Search.{Searching, begins, goes-on, every-found, every-ends}
 use Rattle.layout.specs.Layout.{cells}
-use Rattle.corridor.proofs.Ranges.{both-same}
+use Rattle.whole.proofs.Tests.{both-same}
 use Rattle.corridor.specs.Acceptance.{demandInRange, queuesHold}
 use Rattle.corridor.proofs.checks.row_passes.Statement.{statement}
 use Rattle.corridor.proofs.checks.row_passes.Tie as tie

@@ -3,7 +3,8 @@ use Prim.Native.Nat.{_-_}
 use mathlib.Core.Path.{_∙_, ap}
 use borrow.Author.Needs.{needs}
 use Rattle.whole.proofs.Search.{Searching, begins, goes-on, found, not-found}
-use Rattle.corridor.specs.Acceptance.{rowInRange, rowsInRange}
+use Rattle.ranges.specs.Ranges.{rowInRange}
+use Rattle.corridor.specs.Acceptance.{rowsInRange}
 use Rattle.corridor.proofs.checks.rows_in_range.Statement.{statement}
 use Rattle.corridor.proofs.checks.rows_in_range.Tie as tie
 

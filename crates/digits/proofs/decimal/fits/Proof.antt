@@ -5,7 +5,7 @@ use native.Mathlib.Omega.{arith}
 use borrow.Author.Tests.{le-leb, lt-leb}
 use borrow.Author.Needs.{needs}
 use lib.ListN.{length}
-use Rattle.digits.proofs.Tests.{same-test}
+use Rattle.whole.proofs.Tests.{same-test}
 use Rattle.digits.proofs.Digits.{at-most-20}
 use Rattle.digits.specs.Lines.{digitsOf}
 use Rattle.digits.proofs.decimal.fits.Statement.{statement}

@@ -6,7 +6,7 @@ use borrow.Author.Tests.{le-leb, lt-leb}
 use borrow.Author.Needs.{needs}
 use lib.ListN.{length}
 use Rattle.digits.proofs.Lines.{line-at-most, at-least-2, no-numbers, some-numbers}
-use Rattle.digits.proofs.Tests.{same-test}
+use Rattle.whole.proofs.Tests.{same-test}
 use Rattle.digits.specs.Lines.{furtherText, lineText}
 use Rattle.digits.proofs.decimal.line_fits.Statement.{statement}
 use Rattle.digits.proofs.decimal.line_fits.Tie as tie

@@ -4,18 +4,18 @@ use borrow.Author.Tests.{ltb-true, leb-true}
 use borrow.Author.Needs.{needs}
 use lib.Dec.{ltb, leb}
 use Rattle.scans.specs.Scans.{atStart}
-use Rattle.scans.proofs.Tests.{both}
+use Rattle.whole.proofs.Tests.{both-hold}
 use Rattle.scans.proofs.field.at_start.Statement.{statement}
 use Rattle.scans.proofs.field.at_start.Tie as tie
 
 add-t8 : tie.Need-add-t8
 add-t8 c = let a = c .before .before .args in
-    omega (arith, ltb-true (a .bytes) 16384 (both (c .before .is-digit .result) (ltb (a .bytes) 16384) (c .if1 .taken) .1))
+    omega (arith, ltb-true (a .bytes) 16384 (both-hold (c .before .is-digit .result) (ltb (a .bytes) 16384) (c .if1 .taken) .1))
 
 sub-t9 : tie.Need-sub-t9
 sub-t9 c = let a = c .before .before .args in
-    let digit = both (c .before .is-digit .result) (ltb (a .bytes) 16384) (c .if1 .taken) .0 in
-    omega (arith, leb-true 48 (a .byte) (both (leb 48 (a .byte)) (leb (a .byte) 57) (rw (c .before .is-digit .ensures) at digit) .0))
+    let digit = both-hold (c .before .is-digit .result) (ltb (a .bytes) 16384) (c .if1 .taken) .0 in
+    omega (arith, leb-true 48 (a .byte) (both-hold (leb 48 (a .byte)) (leb (a .byte) 57) (rw (c .before .is-digit .ensures) at digit) .0))
 
 returns : tie.Need-returns
 unfolding atStart

@@ -6,17 +6,17 @@ use borrow.Author.Tests.{ltb-true, leb-true}
 use borrow.Author.Needs.{needs}
 use lib.Dec.{ltb, leb, eqb}
 use Rattle.scans.specs.Scans.{longer}
-use Rattle.scans.proofs.Tests.{both}
+use Rattle.whole.proofs.Tests.{both-hold}
 use Rattle.scans.proofs.field.longer.Statement.{statement}
 use Rattle.scans.proofs.field.longer.Tie as tie
 
 add-t15 : tie.Need-add-t15
 add-t15 c = let a = c .before .args in
-    omega (arith, ltb-true (a .bytes) 16384 (both (not (eqb (a .value) 0) && leb (a .value * 10 + a .digit) 4294967295) (ltb (a .bytes) 16384) (c .if1 .taken) .1))
+    omega (arith, ltb-true (a .bytes) 16384 (both-hold (not (eqb (a .value) 0) && leb (a .value * 10 + a .digit) 4294967295) (ltb (a .bytes) 16384) (c .if1 .taken) .1))
 
 cast-t16 : tie.Need-cast-t16
 cast-t16 c = let a = c .before .args in
-    omega (arith, leb-true (a .value * 10 + a .digit) 4294967295 (both (not (eqb (a .value) 0)) (leb (a .value * 10 + a .digit) 4294967295) (both (not (eqb (a .value) 0) && leb (a .value * 10 + a .digit) 4294967295) (ltb (a .bytes) 16384) (c .if1 .taken) .0) .1))
+    omega (arith, leb-true (a .value * 10 + a .digit) 4294967295 (both-hold (not (eqb (a .value) 0)) (leb (a .value * 10 + a .digit) 4294967295) (both-hold (not (eqb (a .value) 0) && leb (a .value * 10 + a .digit) 4294967295) (ltb (a .bytes) 16384) (c .if1 .taken) .0) .1))
 
 returns : tie.Need-returns
 unfolding longer

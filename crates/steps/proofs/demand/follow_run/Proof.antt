@@ -5,7 +5,8 @@ use native.Mathlib.Omega.{arith}
 use borrow.Author.Tests.{not-true, not-false}
 use borrow.Author.Needs.{needs}
 use lib.ListN.{length}
-use Rattle.steps.proofs.Turning.{cells-most, goes-onward}
+use Rattle.corridor.proofs.Lengths.{cells-most}
+use Rattle.steps.proofs.Turning.{goes-onward}
 use Rattle.steps.proofs.Following.{Following, begins, full, used-up, part-left, over-left, period-followed, room-after}
 use Rattle.steps.proofs.demand.follow_run.Statement.{statement}
 use Rattle.steps.proofs.demand.follow_run.Tie as tie

@@ -1,24 +1,38 @@
 -- `steps::turns::run_row` meets its contract. Assumes nothing.
+use mathlib.Core.Path.{_≡_, _∙_}
 use borrow.Author.Needs.{needs}
 use native.Mathlib.Omega.{arith}
-use Rattle.corridor.proofs.Ranges.{state-length}
-use Rattle.steps.proofs.Turning.{cells-most, row-runs, row-stops}
+use Rattle.corridor.proofs.Lengths.{state-length, cells-most}
+use Rattle.period.proofs.Rows.{row-alone}
+use Rattle.steps.specs.Turns.{rowAnswer}
+use Rattle.steps.proofs.Turning.{row-runs, row-stops}
 use Rattle.steps.proofs.turns.run_row.Statement.{statement}
 use Rattle.steps.proofs.turns.run_row.Tie as tie
 
+run-row-requires : tie.Need-run-row-requires
+run-row-requires c κs =
+    let start = c .before .before .before .before .before .before .before .before .before in
+    let lists = start .args in
+    let ready = start .pre .0 in
+    let checked : c .before .before .accept-demand .result ≡ rowAnswer (lists .table .now) (lists .state .now) (lists .row .now) = c .before .before .accept-demand .ensures ∙ row-alone (lists .table .now) (lists .state .now) (lists .row .now) (ready .fits) (ready .row-fits) in
+    (ready .fits, (ready .row-fits, (ready .sheet-fits, (ready .accepted, checked))))
+
 put-period-requires : tie.Need-put-period-requires
-put-period-requires c κs = let a = c .before .before .before .before .before .before .before .before .before .before .before .before .before .before .before .before .before .before .args in
-    let ready = c .before .before .before .before .before .before .before .before .before .before .before .before .before .before .before .before .before .before .pre .0 in
-    let most = cells-most (a .table .now) (a .state .now) (ready .fits) in
-    let len = state-length (a .table .now) (a .state .now) (ready .fits) in
+put-period-requires c κs =
+    let start = c .before .before .before .before .before .before .before .before .before .before .before .before .before .before .before .before .before .before .before .before in
+    let lists = start .args in
+    let ready = start .pre .0 in
+    let most = cells-most (lists .table .now) (lists .state .now) (ready .fits) in
+    let len = state-length (lists .table .now) (lists .state .now) (ready .fits) in
     let n = c .before .before .before .cells .ensures in
-    (omega (arith, most, n), omega (arith, len, n, c .before .before .before .before .before .before .before .before .before .before .run-row .kept .1 .0), omega (arith, ready .sheet-fits, n, c .before .before .before .before .before .before .before .before .before .before .run-row .kept .1 .1 .1 .0), omega (arith, n, c .before .before .before .before .before .before .before .before .before .before .before .before .before .before .before .before .before .before .pre .1))
+    let kept = c .before .before .before .before .before .before .before .before .before .before .run-row .kept in
+    (omega (arith, most, n), omega (arith, len, n, kept .1 .1 .0), omega (arith, ready .sheet-fits, n, kept .1 .1 .1 .1 .0), omega (arith, n, start .pre .1))
 
 same-length : tie.Need-same-length
-same-length c = c .before .before .before .before .before .before .before .before .before .before .before .before .before .run-row .kept .1 .0
+same-length c = c .before .before .before .before .before .before .before .before .before .before .before .before .before .run-row .kept .1 .1 .0
 
 same-length-2 : tie.Need-same-length-2
-same-length-2 c = c .before .before .before .before .before .before .before .before .before .before .before .before .before .run-row .kept .1 .1 .1 .0
+same-length-2 c = c .before .before .before .before .before .before .before .before .before .before .before .before .before .run-row .kept .1 .1 .1 .1 .0
 
 same-length-3 : tie.Need-same-length-3
 same-length-3 c = c .before .before .put-period .kept .1 .1 .1 .1 .0
@@ -27,10 +41,10 @@ returns : tie.Need-returns
 returns c = row-runs _ _ _ _ _ _ _ _ (c .before .before .before .before .before .before .before .before .before .before .before .before .before .run-row .ensures) (c .before .before .before .before .before .before .before .enum-told .given .1) (c .before .before .before .before .before .before .cells .ensures) (c .before .before .put-period .ensures .0) (c .before .before .put-period .ensures .1)
 
 same-length-4 : tie.Need-same-length-4
-same-length-4 c = c .before .before .before .before .before .before .before .before .before .before .before .before .run-row .kept .1 .0
+same-length-4 c = c .before .before .before .before .before .before .before .before .before .before .before .before .run-row .kept .1 .1 .0
 
 same-length-5 : tie.Need-same-length-5
-same-length-5 c = c .before .before .before .before .before .before .before .before .before .before .before .before .run-row .kept .1 .1 .1 .0
+same-length-5 c = c .before .before .before .before .before .before .before .before .before .before .before .before .run-row .kept .1 .1 .1 .1 .0
 
 same-length-6 : tie.Need-same-length-6
 same-length-6 c = c .before .before .put-stop .kept .1 .0
@@ -43,6 +57,7 @@ run-row-spec =
     tie.close
     (tie.spec
     (λ c κs. search needs)
+    run-row-requires
     (λ c. search needs)
     (λ c κs. search needs)
     put-period-requires

@@ -3,14 +3,14 @@ use borrow.Author.Tests.{leb-true}
 use lib.Dec.{leb}
 use lib.ListN.{length}
 use borrow.Author.Needs.{needs}
-use Rattle.scans.proofs.Tests.{both}
+use Rattle.whole.proofs.Tests.{both-hold}
 use Rattle.text.proofs.Comes.{stays}
 use Rattle.text.proofs.fields.open_fields.Statement.{statement}
 use Rattle.text.proofs.fields.open_fields.Tie as tie
 
 stop-at-requires : tie.Need-stop-at-requires
 stop-at-requires c κs = let a = c .before .before .before .before .before .before .args in
-    let fits = both (leb (a .from) (length (a .chunk .now))) (leb (c .before .before .scan .given .0 .1 .0) 16384) (c .if1 .taken) in
+    let fits = both-hold (leb (a .from) (length (a .chunk .now))) (leb (c .before .before .scan .given .0 .1 .0) 16384) (c .if1 .taken) in
     (leb-true (a .from) (length (a .chunk .now)) (fits .0), leb-true (c .before .before .scan .given .0 .1 .0) 16384 (fits .1))
 
 returns : tie.Need-returns

@@ -4,7 +4,6 @@ use mathlib.Core.Path.{_∙_}
 use native.Mathlib.Omega.{arith}
 use borrow.Author.Needs.{needs}
 use lib.ListN.{length}
-use Rattle.text.specs.Reads.{numbersFrom}
 use Rattle.text.proofs.Reading.{Storing, stores-from, store-more, store-field, store-record, store-breaks, store-ends}
 use Rattle.text.proofs.whole_text.store_text.Statement.{statement}
 use Rattle.text.proofs.whole_text.store_text.Tie as tie
@@ -39,32 +38,10 @@ returns : tie.Need-returns Inv-loop μ-loop
 returns c = store-breaks (c .before .before .before .before .before .loop .inv) (search needs) (c .before .before .feed .ensures) (c .enum-told2 .given .1)
 
 same-length-2 : tie.Need-same-length-2 Inv-loop μ-loop
-same-length-2 c = c .before .before .put2 .kept .0 ∙ c .before .before .before .before .before .before .before .before .before .loop .inv .same
+same-length-2 c = c .before .before .store-last .kept .1 .1 .0 ∙ c .before .before .before .before .before .loop .inv .same
 
 returns-2 : tie.Need-returns-2 Inv-loop μ-loop
-unfolding numbersFrom
-returns-2 c = c .before .before .put2 .ensures ∙ (rw (c .before .before .before .before .before .step3 .given .1) at (store-ends _ (c .before .before .before .before .before .before .before .before .before .loop .inv) (search needs) (c .before .before .before .before .before .before .before .feed2 .ensures)))
-
-same-length-3 : tie.Need-same-length-3 Inv-loop μ-loop
-same-length-3 c = c .before .before .before .before .loop .inv .same
-
-returns-3 : tie.Need-returns-3 Inv-loop μ-loop
-unfolding numbersFrom
-returns-3 c = rw (c .enum-told3 .given .1) at (store-ends _ (c .before .before .before .before .loop .inv) (search needs) (c .before .before .feed2 .ensures))
-
-same-length-4 : tie.Need-same-length-4 Inv-loop μ-loop
-same-length-4 c = c .before .before .before .before .loop .inv .same
-
-returns-4 : tie.Need-returns-4 Inv-loop μ-loop
-unfolding numbersFrom
-returns-4 c = rw (c .enum-told4 .given .1) at (store-ends _ (c .before .before .before .before .loop .inv) (search needs) (c .before .before .feed2 .ensures))
-
-same-length-5 : tie.Need-same-length-5 Inv-loop μ-loop
-same-length-5 c = c .before .before .before .before .loop .inv .same
-
-returns-5 : tie.Need-returns-5 Inv-loop μ-loop
-unfolding numbersFrom
-returns-5 c = rw (c .enum-told5 .given .1) at (store-ends _ (c .before .before .before .before .loop .inv) (search needs) (c .before .before .feed2 .ensures))
+returns-2 c = c .before .before .store-last .ensures ∙ store-ends (c .before .before .before .before .before .loop .inv) (search needs)
 
 pub store-text-spec : {M : Type 1} → statement M
 store-text-spec =
@@ -93,16 +70,5 @@ store-text-spec =
     same-length
     returns
     (λ c κs. search needs)
-    (λ c. search needs)
-    (λ c κs. search needs)
-    (λ c. search needs)
-    (λ c. search needs)
-    (λ c. search needs)
     same-length-2
-    returns-2
-    same-length-3
-    returns-3
-    same-length-4
-    returns-4
-    same-length-5
-    returns-5)
+    returns-2)

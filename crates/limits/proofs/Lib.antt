@@ -1,0 +1,4 @@
+pub mod Limits
+pub mod Walks
+pub mod Passing
+pub mod Settled
