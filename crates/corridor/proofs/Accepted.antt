@@ -1,20 +1,20 @@
 -- What an accepted table, state and demand row say of each cell. Assumes nothing.
 use Prim.Native.Nat.{ℕ, suc, _+_, _≤_, _<_}
-use mathlib.Core.Path.{_≡_, refl, sym}
-use mathlib.Core.Bool.{true, _&&_}
+use mathlib.Core.Path.{_≡_, refl, sym, ap, _∙_}
+use mathlib.Core.Bool.{Bool, true, _&&_, and-true}
 use mathlib.Core.List.{List, [], _∷_}
 use native.Mathlib.Omega.{arith}
 use borrow.Author.Tests.{leb-true}
 use lib.Dec.{leb}
-use Rattle.whole.specs.Search.{every}
+use Rattle.whole.specs.Search.{firstFailing}
 use Rattle.whole.specs.Share.{ONE}
-use Rattle.whole.proofs.Search.{Passes, passes-every}
-use Rattle.refusals.specs.declared.Answer.the-variants.{Accepted}
+use Rattle.whole.proofs.Search.{Passes, IsFirst, first-is, is-first, all-pass}
+use Rattle.refusals.specs.declared.Answer.the-variants.{Accepted, Refused}
 use Rattle.layout.specs.Layout.{cells, rowAt, entryQueue, countAt, queueAt, entryDemand, onDemandAt, offDemandAt}
-use Rattle.refusals.specs.Checks.{Check, answer}
+use Rattle.refusals.specs.Checks.{Check, least, answer}
 use Rattle.ranges.specs.Ranges.{withRamp, givenOff, queueLimit, demandLimit}
 use Rattle.corridor.specs.Acceptance.{tableNumbers, stateInRange, stateNumbers, demandNumbers}
-use Rattle.refusals.proofs.Answers.{accepted-passes, passes-accepted, accepted-both}
+use Rattle.refusals.proofs.Answers.{stops, passes, accepted-passes, passes-accepted, accepted-both}
 use Rattle.whole.proofs.Tests.{both-hold}
 use Rattle.ranges.proofs.Ranges.{InRange, in-range}
 
@@ -61,10 +61,28 @@ row-fits table state demand e =
       queues-hold = λ i h. leb-true _ _ (holds .0 (suc i) (omega arith));
     }
 
--- 6 and 7 pass where both tests do at every place
-pub every-accepted : (first second : Check) {places : ℕ} → first .places ≡ places → second .places ≡ places → every places (λ p. first .test p && second .test p) ≡ true → Accepted ≡ answer (first ∷ second ∷ [])
-every-accepted first second {places} n m e =
-    let both = passes-every places (λ p. first .test p && second .test p) e in
-    let one : Passes (first .places) (first .test) = rw n (λ p h. both-hold (first .test p) (second .test p) (both p h) .0) in
-    let two : Passes (second .places) (second .test) = rw m (λ p h. both-hold (first .test p) (second .test p) (both p h) .1) in
-    sym (passes-accepted first (answer (second ∷ [])) one (passes-accepted second (answer []) two refl))
+-- two checks of the same places, walked over in one
+
+module _ (first second : Check) (n : first .places ≡ second .places) {at : ℕ} (e : at ≡ firstFailing (first .places) (λ p. second .test p && first .test p)) where
+  -- where no place fails either, both pass
+  pub both-pass : first .places ≤ at → Accepted ≡ answer (first ∷ second ∷ [])
+  both-pass h =
+      let both = all-pass (first .places) (λ p. second .test p && first .test p) e h in
+      let two : Passes (second .places) (second .test) = rw (sym n) (λ p h. both-hold (second .test p) (first .test p) (both p h) .0) in
+      sym (passes-accepted first (answer (second ∷ [])) (λ p h. both-hold (second .test p) (first .test p) (both p h) .1) (passes-accepted second (answer []) two refl))
+
+  -- where the first passes, the least place that fails either is the second's
+  pub second-stops : at < first .places → {range : ℕ} → range ≡ least first → first .places ≤ range → Refused (second .refusal at) ≡ answer (first ∷ second ∷ [])
+  second-stops h range passed = passes first range passed (stops second (answer []) is-least (rw (sym n) h))
+    where
+      is-least : at ≡ least second
+      is-least =
+          let both : ℕ → Bool = λ p. second .test p && first .test p in
+          let found : IsFirst (first .places) both at = rw e (is-first (first .places) both) in
+          let holds = all-pass (first .places) (first .test) range passed at h in
+          first-is (second .places) (second .test) at
+          (record {
+            reaches = rw (sym n) (found .reaches);
+            before = λ p below. both-hold (second .test p) (first .test p) (found .before p below) .0;
+            fails = λ _. sym (and-true (second .test at)) ∙ ap (λ t. second .test at && t) (sym holds) ∙ found .fails h;
+          })

@@ -1,15 +1,16 @@
-// The checks of document 01's numbers 2 to 7, one pass each; 6 and 7 in one where both pass. A check answers the least place that fails its test,
-// counted from 0, or how many places there are where none fails.
+// The checks of document 01's numbers 2 to 7. Each answers the least place that fails its test, counted from 0, or how many places there are
+// where none fails.
 ghost use mathlib.Core.Path.{_≡_};
 ghost use Prim.Native.Nat.{ℕ, _+_, _*_, _/_, _%_, _^_, _<_};
-ghost use mathlib.Core.Bool.{not, _&&_};
+ghost use mathlib.Core.Bool.{not, _&&_, _||_};
 ghost use lib.Dec.{eqb};
 ghost use lib.Bits.{bitOr};
 ghost use lib.ListN.{length, getD, set};
-ghost use Rattle.whole.specs.Search.{pick, every};
-ghost use Rattle.layout.specs.Layout.{cells, rampAt, stateLength, demandLength};
+ghost use Rattle.whole.specs.Search.{pick, firstFailing};
+ghost use Rattle.layout.specs.Layout.{cells, rowAt, rampAt, stateLength, demandLength};
 ghost use Rattle.refusals.specs.Checks.{least};
-ghost use Rattle.corridor.specs.Acceptance.{rowsInRange, roomsShared, rampsOnce, stateInRange, demandInRange, queuesHold};
+ghost use Rattle.ranges.specs.Ranges.{rowInRange, roomShared};
+ghost use Rattle.corridor.specs.Acceptance.{rampsOnce, stateInRange, demandInRange, queuesHold};
 use layout::*;
 use ranges::demand_fits;
 use ranges::queue_holds;
@@ -17,29 +18,25 @@ use ranges::room_shared;
 use ranges::row_in_range;
 use ranges::state_fits;
 
-// Number 2.
-pub(crate) fn rows_in_range(table: &[u32]) -> usize
-    ensures { λ r. ⌜ r ≡ least (rowsInRange (now (table .entry))) ⌝ }
+// Number 2 or 3 of a cell row.
+fn row_fits(row: Row, number: u32) -> bool
+    ensures { λ r. ⌜ r ≡ pick (eqb number 2) (rowInRange row) (roomShared row) ⌝ }
 {
-    let n = cells(table);
-    let mut i = 0;
-    while i < n {
-        if !row_in_range(row_at(table, i)) {
-            return i;
-        }
-        i += 1;
+    if number == 2 {
+        row_in_range(row)
+    } else {
+        room_shared(row)
     }
-    n
 }
 
-// Number 3.
-pub(crate) fn rooms_shared(table: &[u32]) -> usize
-    ensures { λ r. ⌜ r ≡ least (roomsShared (now (table .entry))) ⌝ }
+// Number 2 or 3.
+pub(crate) fn rows_fit(table: &[u32], number: u32) -> usize
+    ensures { λ r. ⌜ r ≡ firstFailing (cells (now (table .entry))) (λ i. pick (eqb number 2) (rowInRange (rowAt (now (table .entry)) i)) (roomShared (rowAt (now (table .entry)) i))) ⌝ }
 {
     let n = cells(table);
     let mut i = 0;
     while i < n {
-        if !room_shared(row_at(table, i)) {
+        if !row_fits(row_at(table, i), number) {
             return i;
         }
         i += 1;
@@ -82,7 +79,7 @@ pub(crate) fn ramps_once(table: &[u32]) -> usize
     2 * n
 }
 
-// The same at a position.
+// Number 5 at a position, 0 for the entry.
 fn state_fits_at(table: &[u32], state: &[u32], position: usize) -> bool
     requires { ⌜ length (now state) ≡ stateLength (cells (now table)) ⌝ }
     requires { ⌜ position < cells (now table) + 1 ⌝ }
@@ -115,85 +112,44 @@ pub(crate) fn state_in_range(table: &[u32], state: &[u32]) -> usize
     n
 }
 
-// The same at a position.
-fn demand_fits_at(table: &[u32], demand: &[u32], position: usize) -> bool
+// Number 6 at a position, and 7 too where the queues are asked for.
+fn demand_fits_at(
+    table: &[u32],
+    state: &[u32],
+    demand: &[u32],
+    queues: bool,
+    position: usize,
+) -> bool
+    requires { ⌜ length (now state) ≡ stateLength (cells (now table)) ⌝ }
     requires { ⌜ length (now demand) ≡ demandLength (cells (now table)) ⌝ }
     requires { ⌜ position < cells (now table) + 1 ⌝ }
-    ensures { λ r. ⌜ r ≡ demandInRange (now (table .entry)) (now (demand .entry)) .test position ⌝ }
+    ensures { λ r. ⌜ r ≡ ((not queues || queuesHold (now (table .entry)) (now (state .entry)) (now (demand .entry)) .test position) && demandInRange (now (table .entry)) (now (demand .entry)) .test position) ⌝ }
 {
     if position == 0 {
-        return entry_demand(demand) <= 1_000_000;
+        let d = entry_demand(demand);
+        return (!queues | queue_holds(entry_queue(state), d)) & (d <= 1_000_000);
     }
     let i = position - 1;
-    demand_fits(
-        row_at(table, i),
-        on_demand_at(demand, i),
-        off_demand_at(cells(table), demand, i),
-    )
+    let n = cells(table);
+    let d = on_demand_at(demand, i);
+    let holds = queue_holds(queue_at(n, state, i), d);
+    let fits = demand_fits(row_at(table, i), d, off_demand_at(n, demand, i));
+    (!queues | holds) & fits
 }
 
-// Number 6.
-pub(crate) fn demand_in_range(table: &[u32], demand: &[u32]) -> usize
+// Number 6, or 6 and 7 in one, so that a row that nothing refuses is walked over once.
+pub(crate) fn demand_in_range(table: &[u32], state: &[u32], demand: &[u32], queues: bool) -> usize
+    requires { ⌜ length (now state) ≡ stateLength (cells (now table)) ⌝ }
     requires { ⌜ length (now demand) ≡ demandLength (cells (now table)) ⌝ }
-    ensures { λ r. ⌜ r ≡ least (demandInRange (now (table .entry)) (now (demand .entry))) ⌝ }
+    ensures { λ r. ⌜ r ≡ firstFailing (cells (now (table .entry)) + 1) (λ p. (not queues || queuesHold (now (table .entry)) (now (state .entry)) (now (demand .entry)) .test p) && demandInRange (now (table .entry)) (now (demand .entry)) .test p) ⌝ }
 {
     let n = cells(table) + 1;
     let mut i = 0;
     while i < n {
-        if !demand_fits_at(table, demand, i) {
+        if !demand_fits_at(table, state, demand, queues, i) {
             return i;
         }
         i += 1;
     }
     n
-}
-
-// The same at a position.
-fn queue_holds_at(table: &[u32], state: &[u32], demand: &[u32], position: usize) -> bool
-    requires { ⌜ length (now state) ≡ stateLength (cells (now table)) ⌝ }
-    requires { ⌜ length (now demand) ≡ demandLength (cells (now table)) ⌝ }
-    requires { ⌜ position < cells (now table) + 1 ⌝ }
-    ensures { λ r. ⌜ r ≡ queuesHold (now (table .entry)) (now (state .entry)) (now (demand .entry)) .test position ⌝ }
-{
-    if position == 0 {
-        return queue_holds(entry_queue(state), entry_demand(demand));
-    }
-    let i = position - 1;
-    queue_holds(queue_at(cells(table), state, i), on_demand_at(demand, i))
-}
-
-// Number 7.
-pub(crate) fn queues_hold(table: &[u32], state: &[u32], demand: &[u32]) -> usize
-    requires { ⌜ length (now state) ≡ stateLength (cells (now table)) ⌝ }
-    requires { ⌜ length (now demand) ≡ demandLength (cells (now table)) ⌝ }
-    ensures { λ r. ⌜ r ≡ least (queuesHold (now (table .entry)) (now (state .entry)) (now (demand .entry))) ⌝ }
-{
-    let n = cells(table) + 1;
-    let mut i = 0;
-    while i < n {
-        if !queue_holds_at(table, state, demand, i) {
-            return i;
-        }
-        i += 1;
-    }
-    n
-}
-
-// Whether 6 and 7 pass at every place: one walk over a row that nothing refuses.
-pub(crate) fn row_passes(table: &[u32], state: &[u32], demand: &[u32]) -> bool
-    requires { ⌜ length (now state) ≡ stateLength (cells (now table)) ⌝ }
-    requires { ⌜ length (now demand) ≡ demandLength (cells (now table)) ⌝ }
-    ensures { λ r. ⌜ r ≡ every (cells (now (table .entry)) + 1) (λ p. demandInRange (now (table .entry)) (now (demand .entry)) .test p && queuesHold (now (table .entry)) (now (state .entry)) (now (demand .entry)) .test p) ⌝ }
-{
-    let n = cells(table) + 1;
-    let mut i = 0;
-    while i < n {
-        let fits = demand_fits_at(table, demand, i);
-        let holds = queue_holds_at(table, state, demand, i);
-        if !(fits & holds) {
-            return false;
-        }
-        i += 1;
-    }
-    true
 }

@@ -1,7 +1,6 @@
 // What is refused of the corridor's lists, by document 01's numbers 1 to 7: a table, a state under it, and a demand row under both.
 ghost use mathlib.Core.Path.{_≡_};
 ghost use mathlib.Core.List.{[], _∷_};
-ghost use Prim.Native.Nat.{_≤_};
 ghost use lib.Dec.{eqb};
 ghost use lib.ListN.{length};
 ghost use Rattle.whole.specs.Search.{pick};
@@ -40,29 +39,25 @@ fn row_lengths_fit(table: &[u32], state: &[u32], demand: &[u32]) -> bool
 
 // Number 2, 3 or 4 of a table. Number 4 is for rows in their ranges.
 fn one_number(table: &[u32], number: u32) -> Answer
-    requires { ⌜ (number ≡ 4 → Accepted ≡ answer (rowsInRange (now table) ∷ [])) × (2 ≤ number) × (number ≤ 4) ⌝ }
-    ensures { λ r. ⌜ r ≡ answer (pick (eqb number 2) (rowsInRange (now (table .entry))) (pick (eqb number 3) (roomsShared (now (table .entry))) (rampsOnce (now (table .entry)))) ∷ []) ⌝ }
+    requires { ⌜ (number ≡ 4 → Accepted ≡ answer (rowsInRange (now table) ∷ [])) ⌝ }
+    ensures { λ r. ⌜ r ≡ answer (pick (eqb number 4) (rampsOnce (now (table .entry))) (pick (eqb number 2) (rowsInRange (now (table .entry))) (roomsShared (now (table .entry)))) ∷ []) ⌝ }
 {
     let n = cells(table);
+    if number == 4 {
+        let ramp = checks::ramps_once(table);
+        if ramp < 2 * n {
+            return Answer::Refused(Refusal::RampAgain(ramp / 2 + 1));
+        }
+        return Answer::Accepted;
+    }
+    let row = checks::rows_fit(table, number);
+    if n <= row {
+        return Answer::Accepted;
+    }
     if number == 2 {
-        let row = checks::rows_in_range(table);
-        if row < n {
-            return Answer::Refused(Refusal::TableNumber(row + 1));
-        }
-        return Answer::Accepted;
+        return Answer::Refused(Refusal::TableNumber(row + 1));
     }
-    if number == 3 {
-        let room = checks::rooms_shared(table);
-        if room < n {
-            return Answer::Refused(Refusal::RoomShares(room + 1));
-        }
-        return Answer::Accepted;
-    }
-    let ramp = checks::ramps_once(table);
-    if ramp < 2 * n {
-        return Answer::Refused(Refusal::RampAgain(ramp / 2 + 1));
-    }
-    Answer::Accepted
+    Answer::Refused(Refusal::RoomShares(row + 1))
 }
 
 // Numbers 2 to 4.
@@ -96,25 +91,22 @@ fn state_numbers(table: &[u32], state: &[u32]) -> Answer
     Answer::Accepted
 }
 
-// Numbers 6 and 7.
+// Numbers 6 and 7. Where 6 passes at every place, the least that fails either is the least that fails 7.
 fn demand_numbers(table: &[u32], state: &[u32], demand: &[u32]) -> Answer
     requires { ⌜ length (now state) ≡ stateLength (cells (now table)) ⌝ }
     requires { ⌜ length (now demand) ≡ demandLength (cells (now table)) ⌝ }
     ensures { λ r. ⌜ r ≡ answer (demandNumbers (now (table .entry)) (now (state .entry)) (now (demand .entry))) ⌝ }
 {
-    if checks::row_passes(table, state, demand) {
+    let n = cells(table);
+    let at = checks::demand_in_range(table, state, demand, true);
+    if n < at {
         return Answer::Accepted;
     }
-    let n = cells(table);
-    let at = checks::demand_in_range(table, demand);
-    if at <= n {
-        return Answer::Refused(Refusal::Demand(at));
+    let range = checks::demand_in_range(table, state, demand, false);
+    if range <= n {
+        return Answer::Refused(Refusal::Demand(range));
     }
-    let over = checks::queues_hold(table, state, demand);
-    if over <= n {
-        return Answer::Refused(Refusal::QueueOver(over));
-    }
-    Answer::Accepted
+    Answer::Refused(Refusal::QueueOver(at))
 }
 
 // Whether a table is accepted: numbers 1 to 4.

@@ -1,4 +1,4 @@
-// One cell in one period: straight-line work on numbers, 32 bits in and out, 64 between.
+// One cell in one period, by the kinds of its ramps and without a loop: numbers of 32 bits in and out, 64 between.
 ghost use mathlib.Core.Path.{_≡_};
 ghost use Prim.Native.Nat.{_≤_, _<_};
 ghost use lib.Dec.{ltb};

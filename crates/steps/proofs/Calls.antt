@@ -22,7 +22,7 @@ use Rattle.whole.proofs.Tests.{both-hold}
 use Rattle.corridor.proofs.Lengths.{cells-most}
 use Rattle.layout.specs.Sheet.{sheetLength}
 use Rattle.steps.specs.Lines.{lineWritten, afterLine}
-use Rattle.steps.specs.Turns.{Did, reads, ends, breaks, refuses, passes, didEnd, didText, turnOf, rowAnswer, linesOf, Turned, Ready}
+use Rattle.steps.specs.Turns.{Did, reads, breaks, refuses, passes, did, lastRead, didText, turnOf, writtenTo, rowAnswer, linesOf, Turned, Ready}
 use Rattle.steps.specs.Demand.{Followed, linesRoom, followEnd, andAccepted, runFits, ifFits, runOf, Leaves}
 use Rattle.steps.specs.declared.Run.{Run}
 use Rattle.steps.specs.declared.Run.the-variants.{Over, Unfit}
@@ -84,8 +84,8 @@ unfit-leaves row state sheet f given fit = rw fit (record { answered = refl; lea
 
 pub end-leaves : (table : List ℕ) (k : ℕ) (scan : Scan) (row : List ℕ) {state sheet out : List ℕ} {turn : Turn} {rowLeft stateLeft sheetLeft outLeft : List ℕ} {to : ℕ} → length row ≡ demandLength (cells table)
     → rowLeft ≡ rowAtEnd (length row) scan row
-    → Turned (didEnd (ended scan (length row)) (rowAnswer table state rowLeft)) k table state rowLeft sheet out 0 turn stateLeft sheetLeft outLeft
-    → to ≡ length (didText k (linesOf k table state rowLeft) (didEnd (ended scan (length row)) (rowAnswer table state rowLeft)))
+    → Turned (did (lastRead (ended scan (length row))) (rowAnswer table state rowLeft)) k table state rowLeft sheet out 0 turn stateLeft sheetLeft outLeft
+    → to ≡ length (didText k (linesOf k table state rowLeft) (did (lastRead (ended scan (length row))) (rowAnswer table state rowLeft)))
     → Leaves (followEnd table k scan row state sheet) 0 out (Over to) rowLeft stateLeft sheetLeft outLeft
 unfolding followEnd runOf
 end-leaves table k scan row fits read t e =
@@ -93,18 +93,12 @@ end-leaves table k scan row fits read t e =
     (record { answered = ap Over e; leavesRow = refl; leavesState = t .leavesState; leavesSheet = t .leavesSheet; writes = t .writes })
 
 -- where a turn ends
-abbrev pub positionOf : Turn → ℕ
-positionOf (Turn.Part scan at) = at
-positionOf (Turn.Period next at) = at
-positionOf (Turn.Over at) = at
-
-pub turn-position : (d : Did) (n : ℕ) {turn : Turn} → turn ≡ turnOf d (0 + n) → positionOf turn ≡ n
+pub turn-position : (d : Did) (n : ℕ) {turn : Turn} → turn ≡ turnOf d (0 + n) → writtenTo turn ≡ n
 unfolding turnOf
-turn-position d n e = ap positionOf e ∙ by d
+turn-position d n e = ap writtenTo e ∙ by d
   where
-    by : (d : Did) → positionOf (turnOf d (0 + n)) ≡ n
+    by : (d : Did) → writtenTo (turnOf d (0 + n)) ≡ n
     by (reads scan) = omega arith
-    by ends = omega arith
     by breaks = omega arith
     by (refuses refusal) = omega arith
     by (passes next) = omega arith

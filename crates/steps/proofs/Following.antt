@@ -26,7 +26,7 @@ use Rattle.period.specs.Period.{sheetOf, stateAfter}
 use Rattle.files.specs.Stops.{broken, refusedIn}
 use Rattle.files.specs.Files.{counted}
 use Rattle.steps.specs.Lines.{stopText}
-use Rattle.steps.specs.Turns.{Did, reads, ends, breaks, refuses, passes, didRow, did, didText, turnOf, whenPassed, rowAnswer, linesOf, Turned, Ready}
+use Rattle.steps.specs.Turns.{Did, reads, breaks, refuses, passes, didRow, did, didText, turnOf, whenPassed, rowAnswer, linesOf, Turned, Ready}
 use Rattle.steps.specs.Demand.{later, over, Followed, silent, stopped, after, tried, followOf, linesRoom, follow, runOf, Leaves}
 use Rattle.steps.specs.declared.Run.{Run}
 use Rattle.steps.specs.declared.Run.the-variants.{On, Over}
@@ -52,7 +52,6 @@ module _ (table : List ℕ) where
   -- what following comes to, by what reading on in the bytes does
   unfoldable followDid : ℕ → ℕ → List ℕ → List ℕ → List ℕ → ℕ → List ℕ → Did → Followed
   followDid room k row state sheet at bytes (reads scan) = silent (later k scan 0) row state sheet
-  followDid room k row state sheet at bytes ends = silent over row state sheet
   followDid room k row state sheet at bytes breaks = stopped (broken k k 3) row state sheet
   followDid room k row state sheet at bytes (refuses why) = stopped (refusedIn k why) row state sheet
   followDid room k row state sheet at bytes (passes next) =
@@ -181,7 +180,6 @@ module _ (table : List ℕ) where
                 let all : length chunk - 0 ≡ length chunk = omega arith in
                 rw (es, eh, w, sym same-scan)
                 (leaves (so .lines) (silent (later k s 0) row′ state sheet) f (rw (sym here, all) refl) (rw (append-nil (so .lines)) (so .stores)))
-            by ends f a es eh w = absurd (let z : _≡_ {A = ℕ} 0 1 = cc in omega arith)
             by breaks f a es eh w = absurd (let z : _≡_ {A = ℕ} 0 1 = cc in omega arith)
             by (refuses why) f a es eh w = absurd (let z : _≡_ {A = ℕ} 0 1 = cc in omega arith)
             by (passes n) f a es eh w = absurd (let z : _≡_ {A = ℕ} 0 1 = cc in omega arith)
@@ -202,7 +200,6 @@ module _ (table : List ℕ) where
                 → stateLeft ≡ whenPassed d (stateAfter asymmetric table state row′) state → sheetLeft ≡ whenPassed d (sheetOf asymmetric table state row′) sheet → outLeft ≡ sets out at (didText k (linesOf k table state row′) d)
                 → Leaves whole (length chunk) out₀ (Over to) row′ stateLeft sheetLeft outLeft
             by (reads s) f a es eh w = absurd (let z : _≡_ {A = ℕ} 0 1 = cc in omega arith)
-            by ends f a es eh w = let to-is : to ≡ at + 0 = cc in rw (es, eh) (ended [] f to-is w)
             by breaks f a es eh w = let to-is : to ≡ at + length (stopText (broken k k 3)) = cc in rw (es, eh) (ended (stopText (broken k k 3)) f to-is w)
             by (refuses why) f a es eh w = let to-is : to ≡ at + length (stopText (refusedIn k why)) = cc in rw (es, eh) (ended (stopText (refusedIn k why)) f to-is w)
             by (passes n) f a es eh w = absurd (let z : _≡_ {A = ℕ} 0 1 = cc in omega arith)
@@ -216,7 +213,6 @@ module _ (table : List ℕ) where
                 → stateLeft ≡ whenPassed d (stateAfter asymmetric table state row′) state → sheetLeft ≡ whenPassed d (sheetOf asymmetric table state row′) sheet → outLeft ≡ sets out at (didText k (linesOf k table state row′) d)
                 → Following (counted k) begin row′ stateLeft sheetLeft outLeft next to
             by (reads s) f a es eh w = absurd (let z : _≡_ {A = ℕ} 0 1 = cc in omega arith)
-            by ends f a es eh w = absurd (let z : _≡_ {A = ℕ} 0 1 = cc in omega arith)
             by breaks f a es eh w = absurd (let z : _≡_ {A = ℕ} 0 1 = cc in omega arith)
             by (refuses why) f a es eh w = absurd (let z : _≡_ {A = ℕ} 0 1 = cc in omega arith)
             by (passes n) f a es eh w =

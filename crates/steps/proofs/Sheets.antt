@@ -21,7 +21,7 @@ use Rattle.layout.specs.Layout.{cells, demandLength}
 use Rattle.period.specs.Sharing.{asymmetric}
 use Rattle.period.specs.Period.{sheetOf, stateAfter}
 use Rattle.files.specs.Files.{counted}
-use Rattle.steps.specs.Turns.{didRow, didEnd, didText, rowAnswer, linesOf}
+use Rattle.steps.specs.Turns.{didRow, did, lastRead, didText, rowAnswer, linesOf}
 use Rattle.steps.specs.Demand.{How, later, over, unfit, Followed, silent, after, tried, followOf, linesRoom, follow, followEnd, runFits, ifFits, followCall, runOf}
 use Rattle.steps.specs.Program.{lastRecord, recordsFrom, recordsOn, periodsFrom, sheetText}
 use Rattle.steps.specs.Steps.{Follows, next-chunk, call, stop, end}
@@ -162,8 +162,8 @@ module _ (table : List ℕ) where
           let last : suc (length rest) - length rest ≡ suc zero = omega arith in
           rw (is, last, one, append-nil lines)
 
-  end-writes : (k : ℕ) (state row : List ℕ) (how : End) (a : Answer) → a ≡ rowAnswer table state row → sheetText k table state (lastRecord how row) ≡ didText k (linesOf k table state row) (didEnd how a)
-  unfolding sheetText periodsFrom lastRecord didText didEnd didRow
+  end-writes : (k : ℕ) (state row : List ℕ) (how : End) (a : Answer) → a ≡ rowAnswer table state row → sheetText k table state (lastRecord how row) ≡ didText k (linesOf k table state row) (did (lastRead how) a)
+  unfolding sheetText periodsFrom lastRecord didText did didRow
   end-writes k state row Nothing a e = refl
   end-writes k state row Cut a e = refl
   end-writes k state row Last Accepted e = rw (sym e) (append-nil (linesOf k table state row))

@@ -25,7 +25,7 @@ use Rattle.files.specs.Stops.{broken, refusedIn}
 use Rattle.files.specs.Files.{counted}
 use Rattle.files.specs.declared.Stop.{Stop}
 use Rattle.steps.specs.Lines.{stopText}
-use Rattle.steps.specs.Turns.{Did, didEnd, didText, whenPassed, rowAnswer, linesOf}
+use Rattle.steps.specs.Turns.{Did, did, lastRead, didText, whenPassed, rowAnswer, linesOf}
 use Rattle.steps.specs.declared.Run.{Run}
 use Rattle.steps.specs.declared.Run.the-variants.{On, Over, Unfit}
 
@@ -99,7 +99,7 @@ lastOf d table k row state sheet =
 unfoldable pub followEnd : List ℕ → ℕ → Scan → List ℕ → List ℕ → List ℕ → Followed
 followEnd table k scan row state sheet =
     let last = rowAtEnd (demandLength (cells table)) scan row in
-    lastOf (didEnd (ended scan (demandLength (cells table))) (rowAnswer table state last)) table k last state sheet
+    lastOf (did (lastRead (ended scan (demandLength (cells table)))) (rowAnswer table state last)) table k last state sheet
 
 -- the lists of a run: an accepted table and state, a row and a sheet of their lengths, and room for a period's lines
 unfoldable pub andAccepted : Answer → Bool → Bool

@@ -5,6 +5,7 @@ use mathlib.Core.Bool.{true}
 use mathlib.Core.List.{List, []}
 use lib.ListN.{length}
 use lib.Seq.{sets}
+use Rattle.scans.specs.Scans.{begin}
 use Rattle.scans.specs.declared.Scan.{Scan}
 use Rattle.text.specs.declared.Read.{Read}
 use Rattle.text.specs.declared.Read.the-variants.{Record, Part, Broken}
@@ -26,10 +27,8 @@ use Rattle.steps.specs.declared.Turn.the-variants.{Part, Period, Over}
 
 -- what reading on in the demand comes to
 pub data Did : Type 0 where
-  -- the chunk is used up, and the reading stands here
+  -- no record is complete, and the reading stands here
   reads : Scan → Did
-  -- the demand has ended
-  ends : Did
   -- the record breaks a rule
   breaks : Did
   -- the record is refused
@@ -48,15 +47,15 @@ did (Read.Part scan) a = reads scan
 did Broken a = breaks
 did (Record next) a = didRow a next
 
-unfoldable pub didEnd : End → Answer → Did
-didEnd Nothing a = ends
-didEnd Last a = didRow a 0
-didEnd Cut a = breaks
+-- the end of the demand, as a reading: a record that ends with it is complete
+abbrev pub lastRead : End → Read
+lastRead Nothing = Read.Part begin
+lastRead Last = Record 0
+lastRead Cut = Broken
 
 -- what is written in period k, whose lines these would be
 unfoldable pub didText : ℕ → List ℕ → Did → List ℕ
 didText k lines (reads scan) = []
-didText k lines ends = []
 didText k lines breaks = stopText (broken k k 3)
 didText k lines (refuses refusal) = stopText (refusedIn k refusal)
 didText k lines (passes next) = lines
@@ -64,7 +63,6 @@ didText k lines (passes next) = lines
 -- the turn that answers it, with the output written up to a position
 unfoldable pub turnOf : Did → ℕ → Turn
 turnOf (reads scan) at = Turn.Part scan at
-turnOf ends at = Over at
 turnOf breaks at = Over at
 turnOf (refuses refusal) at = Over at
 turnOf (passes next) at = Period next at
@@ -72,7 +70,6 @@ turnOf (passes next) at = Period next at
 unfoldable pub whenPassed : Did → List ℕ → List ℕ → List ℕ
 whenPassed (passes next) new old = new
 whenPassed (reads scan) new old = old
-whenPassed ends new old = old
 whenPassed breaks new old = old
 whenPassed (refuses refusal) new old = old
 
@@ -97,6 +94,12 @@ pub record Ready (table state row sheet : List ℕ) : Type 0 where
   pub row-fits : length row ≡ demandLength (cells table)
   pub sheet-fits : length sheet ≡ sheetLength (cells table)
   pub accepted : answer (stateNumbers table state) ≡ Accepted
+
+-- where what a turn has written ends
+abbrev pub writtenTo : Turn → ℕ
+writtenTo (Turn.Part scan at) = at
+writtenTo (Period next at) = at
+writtenTo (Over at) = at
 
 -- a period's record ends after where its reading began
 abbrev pub Onward : ℕ → Turn → Type 0

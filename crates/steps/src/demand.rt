@@ -8,8 +8,10 @@ ghost use Rattle.steps.specs.Turns.{Ready};
 ghost use Rattle.steps.specs.Demand.{linesRoom, follow, followEnd, runFits, followCall, endCall, Leaves};
 use crate::Run;
 use crate::Turn;
-use crate::turns::last_turn;
+use crate::turns::last_read;
 use crate::turns::turn;
+use crate::turns::turn_of;
+use crate::turns::written_to;
 use files::counted;
 use layout::cells;
 use refusals::Answer;
@@ -120,12 +122,9 @@ fn end_run(
     requires { ⌜ linesRoom (cells (now table)) ≤ length (now out) ⌝ }
     ensures { λ r. ⌜ Leaves (followEnd (now (table .entry)) k scan (now (row .entry)) (now (state .entry)) (now (sheet .entry))) 0 (now (out .entry)) r (now (row .exit)) (now (state .exit)) (now (sheet .exit)) (now (out .exit)) ⌝ }
 {
-    let turn = last_turn(scan, k, table, state, row, sheet, out, 0);
-    match turn {
-        Turn::Period { next: _, at } => Run::Over(at),
-        Turn::Over(at) => Run::Over(at),
-        Turn::Part { scan: _, at } => Run::Over(at),
-    }
+    let end = text::finish(scan, row);
+    let turn = turn_of(last_read(end), k, table, state, row, sheet, out, 0);
+    Run::Over(written_to(turn))
 }
 
 // The demand ends in period k: a record that ends with it has its period.

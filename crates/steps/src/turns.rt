@@ -2,10 +2,9 @@
 ghost use mathlib.Core.Path.{_≡_};
 ghost use Prim.Native.Nat.{_+_, _*_, _≤_};
 ghost use lib.ListN.{length, drop};
-ghost use Rattle.scans.specs.Scans.{ended};
-ghost use Rattle.text.specs.Reads.{readOn, rowOn, rowAtEnd};
+ghost use Rattle.text.specs.Reads.{readOn, rowOn};
 ghost use Rattle.layout.specs.Layout.{cells};
-ghost use Rattle.steps.specs.Turns.{didRow, did, didEnd, rowAnswer, Turned, Ready};
+ghost use Rattle.steps.specs.Turns.{didRow, lastRead, did, rowAnswer, Turned, writtenTo, Ready};
 use crate::Turn;
 use crate::lines::put_period;
 use crate::lines::put_stop;
@@ -43,6 +42,39 @@ fn run_row(
     }
 }
 
+// The end of the demand, as what reading on comes to: a record that ends with it is complete.
+pub(crate) fn last_read(end: End) -> Read
+    ensures { λ r. ⌜ r ≡ lastRead end ⌝ }
+{
+    match end {
+        End::Nothing => Read::Part(scans::begin()),
+        End::Last => Read::Record(0),
+        End::Cut => Read::Broken,
+    }
+}
+
+// What reading on comes to: a period and its lines, a refusal's line, or nothing yet.
+pub(crate) fn turn_of(
+    read: Read,
+    k: usize,
+    table: &[u32],
+    state: &mut [u32],
+    row: &[u32],
+    sheet: &mut [u32],
+    out: &mut [u8],
+    at: usize,
+) -> Turn
+    requires { ⌜ Ready (now table) (now state) (now row) (now sheet) ⌝ }
+    requires { ⌜ at + 149 * (cells (now table) + 1) ≤ length (now out) ⌝ }
+    ensures { λ r. ⌜ Turned (did read (rowAnswer (now (table .entry)) (now (state .entry)) (now (row .entry)))) k (now (table .entry)) (now (state .entry)) (now (row .entry)) (now (sheet .entry)) (now (out .entry)) at r (now (state .exit)) (now (sheet .exit)) (now (out .exit)) ⌝ }
+{
+    match read {
+        Read::Part(next) => Turn::Part { scan: next, at },
+        Read::Broken => Turn::Over(put_stop(broken(k, k, 3), out, at)),
+        Read::Record(next) => run_row(k, next, table, state, row, sheet, out, at),
+    }
+}
+
 // Reads on in a chunk of the demand to the end of a record, and runs its period.
 pub(crate) fn turn(
     chunk: &[u8],
@@ -62,33 +94,16 @@ pub(crate) fn turn(
     ensures does { λ r. ⌜ Turned (did (readOn (length (now (row .entry))) from scan (drop from (now (chunk .entry)))) (rowAnswer (now (table .entry)) (now (state .entry)) (now (row .exit)))) k (now (table .entry)) (now (state .entry)) (now (row .exit)) (now (sheet .entry)) (now (out .entry)) at r (now (state .exit)) (now (sheet .exit)) (now (out .exit)) ⌝ }
 {
     let read = text::read_record(chunk, from, scan, row);
-    match read {
-        Read::Part(next) => Turn::Part { scan: next, at },
-        Read::Broken => Turn::Over(put_stop(broken(k, k, 3), out, at)),
-        Read::Record(next) => run_row(k, next, table, state, row, sheet, out, at),
-    }
+    turn_of(read, k, table, state, row, sheet, out, at)
 }
 
-// The demand ends. A record that ends with it has its period.
-pub(crate) fn last_turn(
-    scan: Scan,
-    k: usize,
-    table: &[u32],
-    state: &mut [u32],
-    row: &mut [u32],
-    sheet: &mut [u32],
-    out: &mut [u8],
-    at: usize,
-) -> Turn
-    requires { ⌜ Ready (now table) (now state) (now row) (now sheet) ⌝ }
-    requires { ⌜ at + 149 * (cells (now table) + 1) ≤ length (now out) ⌝ }
-    ensures reads { λ _. ⌜ now (row .exit) ≡ rowAtEnd (length (now (row .entry))) scan (now (row .entry)) ⌝ }
-    ensures does { λ r. ⌜ Turned (didEnd (ended scan (length (now (row .entry)))) (rowAnswer (now (table .entry)) (now (state .entry)) (now (row .exit)))) k (now (table .entry)) (now (state .entry)) (now (row .exit)) (now (sheet .entry)) (now (out .entry)) at r (now (state .exit)) (now (sheet .exit)) (now (out .exit)) ⌝ }
+// Where what a turn has written ends.
+pub(crate) fn written_to(turn: Turn) -> usize
+    ensures { λ r. ⌜ r ≡ writtenTo turn ⌝ }
 {
-    let end = text::finish(scan, row);
-    match end {
-        End::Nothing => Turn::Over(at),
-        End::Cut => Turn::Over(put_stop(broken(k, k, 3), out, at)),
-        End::Last => run_row(k, 0, table, state, row, sheet, out, at),
+    match turn {
+        Turn::Part { scan: _, at } => at,
+        Turn::Period { next: _, at } => at,
+        Turn::Over(at) => at,
     }
 }

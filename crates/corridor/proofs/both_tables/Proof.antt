@@ -27,13 +27,13 @@ passed-5 : (c : tie.After-enum-told5) → Accepted ≡ answer (rampsOnce (c .bef
 passed-5 c = sym (c .enum-told5 .given .1) ∙ c .before .before .one-number5 .ensures
 
 one-number-requires : tie.Need-one-number-requires
-one-number-requires c κs = (λ e. absurd (omega arith), omega arith, omega arith)
+one-number-requires c κs = λ e. absurd (omega arith)
 
 returns : tie.Need-returns
 returns c = one-stops _ _ (sym (c .before .rows .given .1) ∙ c .before .before .before .one-number .ensures)
 
 one-number-requires-2 : tie.Need-one-number-requires-2
-one-number-requires-2 c κs = (λ e. absurd (omega arith), omega arith, omega arith)
+one-number-requires-2 c κs = λ e. absurd (omega arith)
 
 returns-2 : tie.Need-returns-2
 returns-2 c =
@@ -41,7 +41,7 @@ returns-2 c =
     (one-stops _ _ (sym (c .before .rows-too .given .1) ∙ c .before .before .before .one-number2 .ensures))
 
 one-number-requires-3 : tie.Need-one-number-requires-3
-one-number-requires-3 c κs = (λ e. absurd (omega arith), omega arith, omega arith)
+one-number-requires-3 c κs = λ e. absurd (omega arith)
 
 returns-3 : tie.Need-returns-3
 returns-3 c =
@@ -50,7 +50,7 @@ returns-3 c =
     (one-stops _ _ (sym (c .before .rooms .given .1) ∙ c .before .before .before .one-number3 .ensures)))
 
 one-number-requires-4 : tie.Need-one-number-requires-4
-one-number-requires-4 c κs = (λ e. absurd (omega arith), omega arith, omega arith)
+one-number-requires-4 c κs = λ e. absurd (omega arith)
 
 returns-4 : tie.Need-returns-4
 returns-4 c =
@@ -60,7 +60,7 @@ returns-4 c =
     (one-stops _ _ (sym (c .before .rooms-too .given .1) ∙ c .before .before .before .one-number4 .ensures))))
 
 one-number-requires-5 : tie.Need-one-number-requires-5
-one-number-requires-5 c κs = (λ _. passed-1 (c .before .before .before .before .before .before .before .before .before), omega arith, omega arith)
+one-number-requires-5 c κs = λ _. passed-1 (c .before .before .before .before .before .before .before .before .before)
 
 returns-5 : tie.Need-returns-5
 returns-5 c =
@@ -71,7 +71,7 @@ returns-5 c =
     (one-stops _ _ (sym (c .before .ramps .given .1) ∙ c .before .before .before .one-number5 .ensures)))))
 
 one-number-requires-6 : tie.Need-one-number-requires-6
-one-number-requires-6 c κs = (λ _. passed-2 (c .before .before .before .before .before .before .before .before .before), omega arith, omega arith)
+one-number-requires-6 c κs = λ _. passed-2 (c .before .before .before .before .before .before .before .before .before)
 
 returns-6 : tie.Need-returns-6
 returns-6 c =

@@ -18,13 +18,13 @@ passed-2 : (c : tie.After-enum-told2) → Accepted ≡ answer (roomsShared (c .b
 passed-2 c = sym (c .enum-told2 .given .1) ∙ c .before .before .one-number2 .ensures
 
 one-number-requires : tie.Need-one-number-requires
-one-number-requires c κs = (λ e. absurd (omega arith), omega arith, omega arith)
+one-number-requires c κs = λ e. absurd (omega arith)
 
 returns : tie.Need-returns
 returns c = one-stops _ _ (sym (c .before .rows .given .1) ∙ c .before .before .before .one-number .ensures)
 
 one-number-requires-2 : tie.Need-one-number-requires-2
-one-number-requires-2 c κs = (λ e. absurd (omega arith), omega arith, omega arith)
+one-number-requires-2 c κs = λ e. absurd (omega arith)
 
 returns-2 : tie.Need-returns-2
 returns-2 c =
@@ -32,7 +32,7 @@ returns-2 c =
     (one-stops _ _ (sym (c .before .rooms .given .1) ∙ c .before .before .before .one-number2 .ensures))
 
 one-number-requires-3 : tie.Need-one-number-requires-3
-one-number-requires-3 c κs = (λ _. passed-1 (c .before .before .before), omega arith, omega arith)
+one-number-requires-3 c κs = λ _. passed-1 (c .before .before .before)
 
 returns-3 : tie.Need-returns-3
 returns-3 c =

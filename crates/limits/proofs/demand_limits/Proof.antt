@@ -38,9 +38,6 @@ loop-again c =
     let more = c .before .loop-test .taken in
     (inv .0, omega (arith, inv .1, length-set (c .before .before .loop .limits) (c .before .before .loop .i) (c .limit-at .result)), inv .2, omega (arith, more), stored-more (c .before .before .before .before .before .before .before .args .table .now) (c .before .before .loop .limits) (c .before .before .loop .i) (omega (arith, more, inv .1)) (c .limit-at .ensures) (inv .4))
 
-same-length : tie.Need-same-length Inv-loop μ-loop
-same-length c = let inv = c .before .loop .inv in inv .1 ∙ sym (inv .2)
-
 returns-2 : tie.Need-returns-2 Inv-loop μ-loop
 returns-2 c =
     let inv = c .before .loop .inv in
@@ -64,5 +61,5 @@ demand-limits-spec =
     (λ c. search needs)
     (λ c. search needs)
     loop-again
-    same-length
+    (λ c. search needs)
     returns-2)

@@ -1,17 +1,20 @@
 -- `corridor::checks::demand_in_range` meets its contract, by the law of the least index that fails. Assumes nothing.
 use Prim.Native.Nat.{_-_, _+_}
 use mathlib.Core.Path.{ap}
+use mathlib.Core.Bool.{not, _&&_, _||_}
 use borrow.Author.Needs.{needs}
 use Rattle.whole.proofs.Search.{Searching, begins, goes-on, found, not-found}
-use Rattle.corridor.specs.Acceptance.{demandInRange}
+use Rattle.layout.specs.Layout.{cells}
+use Rattle.corridor.specs.Acceptance.{demandInRange, queuesHold}
 use Rattle.corridor.proofs.checks.demand_in_range.Statement.{statement}
 use Rattle.corridor.proofs.checks.demand_in_range.Tie as tie
 
 abbrev Inv-loop : tie.InvT-loop
-Inv-loop table demand n i₀ i = Searching (demandInRange table demand .places) (demandInRange table demand .test) n i
+Inv-loop table state demand queues n i₀ i =
+    Searching (cells table + 1) (λ p. (not queues || queuesHold table state demand .test p) && demandInRange table demand .test p) n i
 
 abbrev μ-loop : tie.MeasureT-loop
-μ-loop table demand n i₀ i = n - i
+μ-loop table state demand queues n i₀ i = n - i
 
 loop-holds : tie.Need-loop-holds Inv-loop μ-loop
 loop-holds c = begins _ (ap (λ m. m + 1) (c .cells .ensures))

@@ -12,12 +12,9 @@ returns c = rw (eq-eqb (c .before .args .i) 0 (c .if1 .taken)) (omega arith, ref
 slice-write-buffer : tie.Need-slice-write-buffer
 slice-write-buffer c = let room = rw (ne-eqb (c .before .args .i) 0 (c .if1 .left)) at (c .before .pre) in omega (arith, room)
 
-add-result : tie.Need-add-result
-add-result c = let room = rw (ne-eqb (c .before .args .i) 0 (c .if1 .left)) at (c .before .pre) in omega (arith, room)
-
 returns-2 : tie.Need-returns-2
 returns-2 c = rw (ne-eqb (c .before .args .i) 0 (c .if1 .left)) (refl, refl)
 
 pub put-comma-spec : {M : Type 1} → statement M
 put-comma-spec =
-    tie.close (tie.spec returns slice-write-buffer add-result (λ c. search needs) returns-2)
+    tie.close (tie.spec returns slice-write-buffer (λ c. search needs) (λ c. search needs) returns-2)

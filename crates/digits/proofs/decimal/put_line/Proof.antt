@@ -26,9 +26,6 @@ loop-again c = next-put (c .before .before .before .before .before .before .loop
 put-end-requires : tie.Need-put-end-requires Inv-loop μ-loop
 put-end-requires c κs = end-fits (c .before .before .loop .inv) (search needs)
 
-same-length : tie.Need-same-length Inv-loop μ-loop
-same-length c = c .before .before .put-end .kept .0 ∙ c .before .before .before .before .before .loop .inv .same
-
 returns : tie.Need-returns Inv-loop μ-loop
 returns c = end-put (c .before .before .before .before .before .loop .inv) (search needs) (c .before .before .put-end .ensures .0) (c .before .before .put-end .ensures .1)
 
@@ -46,5 +43,5 @@ put-line-spec =
     (λ c. omega arith)
     loop-again
     put-end-requires
-    same-length
+    (λ c. search needs)
     returns)

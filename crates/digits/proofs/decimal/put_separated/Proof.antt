@@ -1,6 +1,7 @@
 -- `digits::decimal::put_separated` meets its contract. Assumes nothing.
 use mathlib.Core.Path.{sym, _∙_}
 use native.Mathlib.Omega.{arith}
+use borrow.Author.Needs.{needs}
 use lib.ListN.{length-append}
 use Rattle.digits.specs.Lines.{digitsOf}
 use Rattle.digits.specs.Writes.{comma, separated}
@@ -20,9 +21,6 @@ put-number-requires c κs = let a = c .before .before .before .before .before .b
     let parts = length-append (comma (a .i)) (digitsOf (a .number)) in
     omega (arith, parts, c .before .before .before .before .before .before .pre, c .before .before .before .put-comma .ensures .0, c .before .before .before .put-comma .kept .1 .0)
 
-same-length : tie.Need-same-length
-same-length c = c .before .before .put-number .kept .1 .0 ∙ c .before .before .before .before .before .before .put-comma .kept .1 .0
-
 returns : tie.Need-returns
 unfolding separated
 returns c = let a = c .before .before .before .before .before .before .before .before .before .args in
@@ -33,4 +31,4 @@ returns c = let a = c .before .before .before .before .before .before .before .b
 
 pub put-separated-spec : {M : Type 1} → statement M
 put-separated-spec =
-    tie.close (tie.spec put-comma-requires put-number-requires same-length returns)
+    tie.close (tie.spec put-comma-requires put-number-requires (λ c. search needs) returns)

@@ -12,18 +12,6 @@ returns c = unfit-leaves _ _ _ _ _ (sym (c .before .run-fits .ensures) ∙ not-t
 follow-run-requires : tie.Need-follow-run-requires
 follow-run-requires c κs = run-fits-ready _ _ _ _ _ (sym (c .before .before .before .before .before .run-fits .ensures) ∙ not-false _ (c .before .before .before .before .if1 .left))
 
-same-length-5 : tie.Need-same-length-5
-same-length-5 c = c .before .before .before .before .before .before .before .before .follow-run .kept .1 .1 .1 .1 .0
-
-same-length-6 : tie.Need-same-length-6
-same-length-6 c = c .before .before .before .before .before .before .before .before .follow-run .kept .1 .1 .1 .1 .1 .0
-
-same-length-7 : tie.Need-same-length-7
-same-length-7 c = c .before .before .before .before .before .before .before .before .follow-run .kept .1 .1 .1 .1 .1 .1 .0
-
-same-length-8 : tie.Need-same-length-8
-same-length-8 c = c .before .before .before .before .before .before .before .before .follow-run .kept .1 .1 .1 .1 .1 .1 .1 .0
-
 returns-2 : tie.Need-returns-2
 returns-2 c = fits-leaves _ _ _ _ (sym (c .before .before .before .before .before .before .before .before .before .before .before .before .before .before .run-fits .ensures) ∙ not-false _ (c .before .before .before .before .before .before .before .before .before .before .before .before .before .if1 .left)) (c .before .before .before .before .before .before .before .before .follow-run .ensures)
 
@@ -38,8 +26,8 @@ follow-spec =
     (λ c. refl)
     returns
     follow-run-requires
-    same-length-5
-    same-length-6
-    same-length-7
-    same-length-8
+    (λ c. search needs)
+    (λ c. search needs)
+    (λ c. search needs)
+    (λ c. search needs)
     returns-2)

@@ -35,35 +35,11 @@ loop-holds c = (begins _ _ _ _ _ _ _ _ (c .before .before .before .before .befor
 has-room-requires : tie.Need-has-room-requires Inv-loop μ-loop
 has-room-requires c κs = let a = c .before .before .before .before .before .before .before .before .before .args in rw (c .before .before .cells .ensures) (cells-most (a .table .now) (c .before .loop .state) (c .before .loop .inv .0 .ready .fits))
 
-same-length : tie.Need-same-length Inv-loop μ-loop
-same-length c = c .before .before .before .before .loop .inv .1
-
-same-length-2 : tie.Need-same-length-2 Inv-loop μ-loop
-same-length-2 c = c .before .before .before .before .loop .inv .2
-
-same-length-3 : tie.Need-same-length-3 Inv-loop μ-loop
-same-length-3 c = c .before .before .before .before .loop .inv .3
-
-same-length-4 : tie.Need-same-length-4 Inv-loop μ-loop
-same-length-4 c = c .before .before .before .before .loop .inv .4
-
 returns : tie.Need-returns Inv-loop μ-loop
 returns c = rw (c .stands .ensures) (full _ _ _ _ _ _ _ _ (c .before .before .before .before .loop .inv .0) (rw (c .before .before .before .before .before .cells .ensures, c .before .before .before .before .loop .inv .4) at (sym (c .before .before .has-room .ensures) ∙ not-true _ (c .before .if1 .taken))) (c .before .before .before .loop-test .taken))
 
 turn-requires : tie.Need-turn-requires Inv-loop μ-loop
 turn-requires c κs = (c .before .before .before .before .before .before .before .loop .inv .0 .ready, room-after _ _ _ (rw (c .before .before .before .before .before .before .before .before .cells .ensures) at (sym (c .before .before .before .before .before .has-room .ensures) ∙ not-false _ (c .before .before .before .before .if1 .left))))
-
-same-length-5 : tie.Need-same-length-5 Inv-loop μ-loop
-same-length-5 c = kept (c .before .before .before .before .before .before .before .before .before .before .before .before) .0
-
-same-length-6 : tie.Need-same-length-6 Inv-loop μ-loop
-same-length-6 c = kept (c .before .before .before .before .before .before .before .before .before .before .before .before) .1
-
-same-length-7 : tie.Need-same-length-7 Inv-loop μ-loop
-same-length-7 c = kept (c .before .before .before .before .before .before .before .before .before .before .before .before) .2
-
-same-length-8 : tie.Need-same-length-8 Inv-loop μ-loop
-same-length-8 c = kept (c .before .before .before .before .before .before .before .before .before .before .before .before) .3
 
 returns-2 : tie.Need-returns-2 Inv-loop μ-loop
 returns-2 c = rw (c .stands2 .ensures) (part-left _ _ _ _ _ _ _ _ (c .before .before .before .before .before .before .before .before .before .before .before .before .before .before .before .before .before .before .before .before .loop .inv .0) (rw (c .before .before .before .before .before .before .before .before .before .before .before .before .before .before .before .before .before .before .before .before .before .cells .ensures, c .before .before .before .before .before .before .before .before .before .before .before .before .before .before .before .before .before .before .before .before .loop .inv .4) at (sym (c .before .before .before .before .before .before .before .before .before .before .before .before .before .before .before .before .before .before .has-room .ensures) ∙ not-false _ (c .before .before .before .before .before .before .before .before .before .before .before .before .before .before .before .before .before .if1 .left))) (c .before .before .before .before .before .before .before .before .before .before .before .before .turn .ensures .0) (omega arith) (c .before .before .before .before .before .before .before .before .before .before .before .before .turn .ensures .1) (c .before .before .turn2 .given .1))
@@ -74,32 +50,8 @@ loop-less c = let on : c .before .before .before .before .before .before .before
 loop-again : tie.Need-loop-again Inv-loop μ-loop
 loop-again c = let same = kept (c .before .before .before .before .before .before .before .before .before .before .before .before .before) in let on : c .before .before .before .before .before .before .before .before .before .before .before .before .before .before .before .before .before .before .before .before .before .loop .from < c .before .before .before .turn3 .given .0 .0 = rw (c .before .before .before .turn3 .given .1) at (goes-onward _ _ _ _ _ _ (c .before .before .before .before .before .before .before .before .before .before .before .before .before .turn .ensures .1 .answered)) in (rw (c .before .begin .ensures, c .counted .ensures) (period-followed _ _ _ _ _ _ _ _ (c .before .before .before .before .before .before .before .before .before .before .before .before .before .before .before .before .before .before .before .before .before .loop .inv .0) (rw (c .before .before .before .before .before .before .before .before .before .before .before .before .before .before .before .before .before .before .before .before .before .before .cells .ensures, c .before .before .before .before .before .before .before .before .before .before .before .before .before .before .before .before .before .before .before .before .before .loop .inv .4) at (sym (c .before .before .before .before .before .before .before .before .before .before .before .before .before .before .before .before .before .before .before .has-room .ensures) ∙ not-false _ (c .before .before .before .before .before .before .before .before .before .before .before .before .before .before .before .before .before .before .if1 .left))) (c .before .before .before .before .before .before .before .before .before .before .before .before .before .turn .ensures .0) (omega arith) (c .before .before .before .before .before .before .before .before .before .before .before .before .before .turn .ensures .1) (c .before .before .before .turn3 .given .1) on), same .0, same .1, same .2, same .3)
 
-same-length-9 : tie.Need-same-length-9 Inv-loop μ-loop
-same-length-9 c = kept (c .before .before .before .before .before .before .before .before .before .before .before) .0
-
-same-length-10 : tie.Need-same-length-10 Inv-loop μ-loop
-same-length-10 c = kept (c .before .before .before .before .before .before .before .before .before .before .before) .1
-
-same-length-11 : tie.Need-same-length-11 Inv-loop μ-loop
-same-length-11 c = kept (c .before .before .before .before .before .before .before .before .before .before .before) .2
-
-same-length-12 : tie.Need-same-length-12 Inv-loop μ-loop
-same-length-12 c = kept (c .before .before .before .before .before .before .before .before .before .before .before) .3
-
 returns-3 : tie.Need-returns-3 Inv-loop μ-loop
 returns-3 c = over-left _ _ _ _ _ _ _ _ (c .before .before .before .before .before .before .before .before .before .before .before .before .before .before .before .before .before .before .before .loop .inv .0) (rw (c .before .before .before .before .before .before .before .before .before .before .before .before .before .before .before .before .before .before .before .before .cells .ensures, c .before .before .before .before .before .before .before .before .before .before .before .before .before .before .before .before .before .before .before .loop .inv .4) at (sym (c .before .before .before .before .before .before .before .before .before .before .before .before .before .before .before .before .before .has-room .ensures) ∙ not-false _ (c .before .before .before .before .before .before .before .before .before .before .before .before .before .before .before .before .if1 .left))) (c .before .before .before .before .before .before .before .before .before .before .before .turn .ensures .0) (omega arith) (c .before .before .before .before .before .before .before .before .before .before .before .turn .ensures .1) (c .before .turn4 .given .1)
-
-same-length-13 : tie.Need-same-length-13 Inv-loop μ-loop
-same-length-13 c = c .before .before .loop .inv .1
-
-same-length-14 : tie.Need-same-length-14 Inv-loop μ-loop
-same-length-14 c = c .before .before .loop .inv .2
-
-same-length-15 : tie.Need-same-length-15 Inv-loop μ-loop
-same-length-15 c = c .before .before .loop .inv .3
-
-same-length-16 : tie.Need-same-length-16 Inv-loop μ-loop
-same-length-16 c = c .before .before .loop .inv .4
 
 returns-4 : tie.Need-returns-4 Inv-loop μ-loop
 returns-4 c = rw (c .stands3 .ensures) (used-up _ _ _ _ _ _ _ _ (c .before .before .loop .inv .0) (c .before .loop-test .left))
@@ -114,18 +66,18 @@ follow-run-spec =
     loop-holds
     has-room-requires
     (λ c κs. search needs)
-    same-length
-    same-length-2
-    same-length-3
-    same-length-4
+    (λ c. search needs)
+    (λ c. search needs)
+    (λ c. search needs)
+    (λ c. search needs)
     returns
     turn-requires
     (λ c. search needs)
     (λ c κs. search needs)
-    same-length-5
-    same-length-6
-    same-length-7
-    same-length-8
+    (λ c. search needs)
+    (λ c. search needs)
+    (λ c. search needs)
+    (λ c. search needs)
     returns-2
     (λ c. search needs)
     (λ c κs. search needs)
@@ -133,14 +85,14 @@ follow-run-spec =
     loop-less
     loop-again
     (λ c. search needs)
-    same-length-9
-    same-length-10
-    same-length-11
-    same-length-12
+    (λ c. search needs)
+    (λ c. search needs)
+    (λ c. search needs)
+    (λ c. search needs)
     returns-3
     (λ c κs. search needs)
-    same-length-13
-    same-length-14
-    same-length-15
-    same-length-16
+    (λ c. search needs)
+    (λ c. search needs)
+    (λ c. search needs)
+    (λ c. search needs)
     returns-4)

@@ -26,9 +26,6 @@ loop-again c = let inv = c .before .before .before .before .before .loop .inv in
     let put = c .before .before .put-cell .ensures in
     (λ k is. cell-written _ _ _ _ (inv .0 k is) (search needs) (put .0 k is) (put .1 .0) (put .1 .1 k is) (search needs), search needs, omega arith, omega arith)
 
-same-length : tie.Need-same-length Inv-loop μ-loop
-same-length c = c .before .loop .inv .3
-
 returns : tie.Need-returns Inv-loop μ-loop
 returns c = let inv = c .before .loop .inv in
     (λ k is. all-written _ _ _ _ (inv .0 k is) (search needs) .0, λ k is. all-written _ _ _ _ (inv .0 k is) (search needs) .1)
@@ -44,5 +41,5 @@ put-cells-spec =
     (λ c. search needs)
     (λ c. omega arith)
     loop-again
-    same-length
+    (λ c. search needs)
     returns)

@@ -28,26 +28,8 @@ put-period-requires c κs =
     let kept = c .before .before .before .before .before .before .before .before .before .before .run-row .kept in
     (omega (arith, most, n), omega (arith, len, n, kept .1 .1 .0), omega (arith, ready .sheet-fits, n, kept .1 .1 .1 .1 .0), omega (arith, n, start .pre .1))
 
-same-length : tie.Need-same-length
-same-length c = c .before .before .before .before .before .before .before .before .before .before .before .before .before .run-row .kept .1 .1 .0
-
-same-length-2 : tie.Need-same-length-2
-same-length-2 c = c .before .before .before .before .before .before .before .before .before .before .before .before .before .run-row .kept .1 .1 .1 .1 .0
-
-same-length-3 : tie.Need-same-length-3
-same-length-3 c = c .before .before .put-period .kept .1 .1 .1 .1 .0
-
 returns : tie.Need-returns
 returns c = row-runs _ _ _ _ _ _ _ _ (c .before .before .before .before .before .before .before .before .before .before .before .before .before .run-row .ensures) (c .before .before .before .before .before .before .before .enum-told .given .1) (c .before .before .before .before .before .before .cells .ensures) (c .before .before .put-period .ensures .0) (c .before .before .put-period .ensures .1)
-
-same-length-4 : tie.Need-same-length-4
-same-length-4 c = c .before .before .before .before .before .before .before .before .before .before .before .before .run-row .kept .1 .1 .0
-
-same-length-5 : tie.Need-same-length-5
-same-length-5 c = c .before .before .before .before .before .before .before .before .before .before .before .before .run-row .kept .1 .1 .1 .1 .0
-
-same-length-6 : tie.Need-same-length-6
-same-length-6 c = c .before .before .put-stop .kept .1 .0
 
 returns-2 : tie.Need-returns-2
 returns-2 c = row-stops _ _ _ _ _ _ _ _ (c .before .before .before .before .before .before .before .before .before .before .before .before .run-row .ensures) (c .before .before .before .before .before .before .answer .given .1) (c .before .before .before .before .refused-in .ensures) (c .before .before .put-stop .ensures .0) (c .before .before .put-stop .ensures .1)
@@ -64,11 +46,11 @@ run-row-spec =
     (λ c. search needs)
     (λ c κs. search needs)
     (λ c κs. search needs)
-    same-length
-    same-length-2
-    same-length-3
+    (λ c. search needs)
+    (λ c. search needs)
+    (λ c. search needs)
     returns
-    same-length-4
-    same-length-5
-    same-length-6
+    (λ c. search needs)
+    (λ c. search needs)
+    (λ c. search needs)
     returns-2)

@@ -36,14 +36,8 @@ loop-again c = let more = ltb-true (c .before .before .before .before .before .b
     let one = rw (c .before .begun .given .1) at (c .before .before .before .whole-field .ensures) in
     (one-field-more (c .before .before .before .before .before .before .loop .inv .0) (omega arith) one, simp length-set (c .before .before .before .before .before .before .loop .inv .1))
 
-same-length : tie.Need-same-length Inv-loop μ-loop
-same-length c = c .before .before .before .before .before .loop .inv .1
-
 returns : tie.Need-returns Inv-loop μ-loop
 returns c = c .before .before .before .before .before .loop .inv .0
-
-same-length-2 : tie.Need-same-length-2 Inv-loop μ-loop
-same-length-2 c = c .before .before .loop .inv .1
 
 returns-2 : tie.Need-returns-2 Inv-loop μ-loop
 returns-2 c = c .before .before .loop .inv .0
@@ -64,7 +58,7 @@ whole-fields-spec =
     loop-less
     loop-again
     (λ c. search needs)
-    same-length
+    (λ c. search needs)
     returns
-    same-length-2
+    (λ c. search needs)
     returns-2)

@@ -31,14 +31,8 @@ loop-again-3 : tie.Need-loop-again-3 Inv-loop μ-loop
 loop-again-3 c = store-record (c .before .before .before .before .before .before .loop .inv) (search needs) (c .before .before .before .feed .ensures) (c .before .enum-told .given .1)
     (c .begin2 .ensures)
 
-same-length : tie.Need-same-length Inv-loop μ-loop
-same-length c = c .before .before .before .before .before .loop .inv .same
-
 returns : tie.Need-returns Inv-loop μ-loop
 returns c = store-breaks (c .before .before .before .before .before .loop .inv) (search needs) (c .before .before .feed .ensures) (c .enum-told2 .given .1)
-
-same-length-2 : tie.Need-same-length-2 Inv-loop μ-loop
-same-length-2 c = c .before .before .store-last .kept .1 .1 .0 ∙ c .before .before .before .before .before .loop .inv .same
 
 returns-2 : tie.Need-returns-2 Inv-loop μ-loop
 returns-2 c = c .before .before .store-last .ensures ∙ store-ends (c .before .before .before .before .before .loop .inv) (search needs)
@@ -67,8 +61,8 @@ store-text-spec =
     (λ c. omega arith)
     loop-again-3
     (λ c. search needs)
-    same-length
+    (λ c. search needs)
     returns
     (λ c κs. search needs)
-    same-length-2
+    (λ c. search needs)
     returns-2)
