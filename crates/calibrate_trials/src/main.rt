@@ -2,10 +2,10 @@
 // is what the independent implementation in peer/calibration.rs prints, so that a run compares the two bit for bit. Among
 // the samples are subnormal, huge, equal and boundary values, infinities and NaNs.
 use diagram::Calibration;
-use diagram::Diagram;
-use diagram::RowNumbers;
 use diagram::Settings;
 use refusals::Refusal;
+use row_maker::Diagram;
+use row_maker::RowNumbers;
 
 // What is carried from set to set: the next draw, and the digest so far.
 struct Trials {

@@ -1,26 +1,21 @@
--- What an accepted table, state and demand row say of each cell. Assumes nothing.
+-- What an accepted state and demand row say of each cell. Assumes nothing.
 use Prim.Native.Nat.{ℕ, suc, _+_, _≤_, _<_}
 use mathlib.Core.Path.{_≡_, refl, sym, ap, _∙_}
-use mathlib.Core.Bool.{Bool, true, _&&_, and-true}
+use mathlib.Core.Bool.{Bool, _&&_, and-true}
 use mathlib.Core.List.{List, [], _∷_}
 use native.Mathlib.Omega.{arith}
 use borrow.Author.Tests.{leb-true}
 use lib.Dec.{leb}
 use Rattle.whole.specs.Search.{firstFailing}
-use Rattle.whole.specs.Share.{ONE}
 use Rattle.whole.proofs.Search.{Passes, IsFirst, first-is, is-first, all-pass}
 use Rattle.refusals.specs.declared.Answer.the-variants.{Accepted, Refused}
 use Rattle.layout.specs.Layout.{cells, rowAt, entryQueue, countAt, queueAt, entryDemand, onDemandAt, offDemandAt}
 use Rattle.refusals.specs.Checks.{Check, least, answer}
 use Rattle.ranges.specs.Ranges.{withRamp, givenOff, queueLimit, demandLimit}
-use Rattle.corridor.specs.Acceptance.{tableNumbers, stateInRange, stateNumbers, demandNumbers}
+use Rattle.tables.specs.Tables.{tableNumbers}
+use Rattle.corridor.specs.Acceptance.{stateInRange, stateNumbers, demandNumbers}
 use Rattle.refusals.proofs.Answers.{stops, passes, accepted-passes, passes-accepted, accepted-both}
 use Rattle.whole.proofs.Tests.{both-hold}
-use Rattle.ranges.proofs.Ranges.{InRange, in-range}
-
-pub record TableFits (table : List ℕ) : Type 0 where
-  pub rows : (i : ℕ) → i < cells table → InRange (rowAt table i)
-  pub rooms : (i : ℕ) → i < cells table → rowAt table i .w + rowAt table i .x ≤ ONE
 
 pub record StateFits (table state : List ℕ) : Type 0 where
   pub entry : entryQueue state ≤ queueLimit
@@ -33,12 +28,6 @@ pub record RowFits (table state demand : List ℕ) : Type 0 where
   pub offs : (i : ℕ) → i < cells table → offDemandAt (cells table) demand i ≤ givenOff (rowAt table i)
   pub entry-holds : entryQueue state + entryDemand demand ≤ queueLimit
   pub queues-hold : (i : ℕ) → i < cells table → queueAt (cells table) state i + onDemandAt demand i ≤ queueLimit
-
-pub table-fits : (table : List ℕ) → answer (tableNumbers table) ≡ Accepted → TableFits table
-table-fits table e =
-    let rows = accepted-passes _ _ e in
-    let rooms = accepted-passes _ _ (rows .1) in
-    record { rows = λ i h. in-range _ (rows .0 i h); rooms = λ i h. leb-true _ _ (rooms .0 i h) }
 
 pub state-fits : (table state : List ℕ) → answer (stateNumbers table state) ≡ Accepted → StateFits table state
 state-fits table state e =

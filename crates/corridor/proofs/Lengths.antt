@@ -9,11 +9,16 @@ use lib.ListN.{length}
 use Rattle.whole.proofs.Tests.{both-hold}
 use Rattle.layout.specs.Layout.{cells, stateLength, demandLength}
 use Rattle.ranges.proofs.Ranges.{Between, between}
-use Rattle.corridor.specs.Acceptance.{tableLengthFits, stateLengthsFit, rowLengthsFit}
+use Rattle.tables.specs.Tables.{tableLengthFits}
+use Rattle.corridor.specs.Acceptance.{stateLengthsFit, rowLengthsFit}
 
 -- the cells of a table whose length fits
 pub cells-fit : (table : List ℕ) → tableLengthFits table ≡ true → Between 1 512 (cells table)
 cells-fit table fit = between _ _ _ (both-hold (eqb (length table % 9) 0) _ fit .1)
+
+-- where the lengths fit together, the table's own does
+pub table-length : (table state : List ℕ) → stateLengthsFit table state ≡ true → tableLengthFits table ≡ true
+table-length table state fit = both-hold (tableLengthFits table) _ fit .0
 
 -- the lengths under a table whose row of lists fits
 pub state-length : (table state : List ℕ) → stateLengthsFit table state ≡ true → length state ≡ stateLength (cells table)
@@ -25,4 +30,4 @@ row-lengths table state demand fit =
 
 -- an accepted table has at most 512 cells
 pub cells-most : (table state : List ℕ) → stateLengthsFit table state ≡ true → cells table ≤ 512
-cells-most table state fits = cells-fit table (both-hold (tableLengthFits table) _ fits .0) .most
+cells-most table state fits = cells-fit table (table-length table state fits) .most

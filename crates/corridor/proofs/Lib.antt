@@ -1,5 +1,3 @@
 pub mod Lengths
-pub mod Marks
-pub mod Ramps
 pub mod Accepted
 pub mod Settled

@@ -1,8 +1,6 @@
 -- The promise of each public function settles its result: two answers that it allows for the same lists are equal.
 -- Assumes nothing.
 use Rattle.whole.proofs.Settles.{Settles, settled}
-use Rattle.corridor.proofs.accept_table.Kinds as accept-table-kinds
-use Rattle.corridor.proofs.accept_table.Reads as accept-table
 use Rattle.corridor.proofs.accept_state.Kinds as accept-state-kinds
 use Rattle.corridor.proofs.accept_state.Reads as accept-state
 use Rattle.corridor.proofs.accept_row.Kinds as accept-row-kinds
@@ -11,11 +9,6 @@ use Rattle.corridor.proofs.accept_demand.Kinds as accept-demand-kinds
 use Rattle.corridor.proofs.accept_demand.Reads as accept-demand
 use Rattle.corridor.proofs.accept_state_alone.Kinds as accept-state-alone-kinds
 use Rattle.corridor.proofs.accept_state_alone.Reads as accept-state-alone
-use Rattle.corridor.proofs.accept_tables.Kinds as accept-tables-kinds
-use Rattle.corridor.proofs.accept_tables.Reads as accept-tables
-
-pub accept-table-settles : Settles _ accept-table-kinds.ps accept-table-kinds.r accept-table.Learnt
-accept-table-settles κs a y z e f = settled
 
 pub accept-state-settles : Settles _ accept-state-kinds.ps accept-state-kinds.r accept-state.Learnt
 accept-state-settles κs a y z e f = settled
@@ -28,6 +21,3 @@ accept-demand-settles κs a y z e f = settled
 
 pub accept-state-alone-settles : Settles _ accept-state-alone-kinds.ps accept-state-alone-kinds.r accept-state-alone.Learnt
 accept-state-alone-settles κs a y z e f = settled
-
-pub accept-tables-settles : Settles _ accept-tables-kinds.ps accept-tables-kinds.r accept-tables.Learnt
-accept-tables-settles κs a y z e f = settled

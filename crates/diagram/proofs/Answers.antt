@@ -1,42 +1,34 @@
--- How an answer goes from check to check, and what the answers of the fit and the row tell. Assumes nothing.
-use Prim.Native.Nat.{ℕ, _+_, _≤_, _<_}
+-- How an answer goes from check to check, and what the answers of the fit and the calibration tell. Assumes nothing.
+use Prim.Native.Nat.{ℕ, _+_, _≤_}
 use mathlib.Core.Path.{_≡_, refl, sym, ap, ap₂, _∙_}
-use mathlib.Core.Bool.{Bool, true, false}
+use mathlib.Core.Bool.{Bool, true, false, _&&_}
 use mathlib.Core.List.{List, [], _∷_}
 use native.Mathlib.Numerals.{add-one}
+use native.Mathlib.Omega.{arith}
 use borrow.Author.Tests.{leb-true, eqb-true}
-use lib.Dec.{lit<}
 use lib.Ieee.{Float}
 use lib.ListN.{length}
-use Rattle.whole.proofs.Search.{all-pass}
 use Rattle.refusals.specs.declared.Refusal.{Refusal}
 use Rattle.refusals.specs.declared.Answer.{Answer}
 use Rattle.refusals.specs.declared.Answer.the-variants.{Accepted, Refused}
-use Rattle.refusals.specs.Checks.{Check, least, orLater, answer, lengths}
+use Rattle.refusals.specs.Checks.{Check, orLater, answer, lengths}
 use Rattle.whole.proofs.Tests.{both-hold}
-use Rattle.refusals.proofs.Answers.{refused-stays, accepted-goes-on}
+use Rattle.refusals.proofs.Answers.{refused-stays, accepted-goes-on, accepted-passes}
 use Rattle.diagram.specs.declared.Settings.{Settings}
 use Rattle.diagram.specs.declared.Sample.{Sample}
-use Rattle.diagram.specs.declared.Diagram.{Diagram}
-use Rattle.diagram.specs.declared.RowValues.{RowValues}
-use Rattle.diagram.specs.declared.RowNumbers.{RowNumbers}
+use Rattle.row_maker.specs.declared.Diagram.{Diagram}
+use Rattle.row_maker.specs.declared.RowValues.{RowValues}
+use Rattle.row_maker.specs.declared.RowNumbers.{RowNumbers}
 use Rattle.diagram.specs.declared.FitAnswer.{FitAnswer}
 use Rattle.diagram.specs.declared.FitAnswer.the-variants.{Fitted, NotFitted}
-use Rattle.diagram.specs.declared.RowAnswer.{RowAnswer}
-use Rattle.diagram.specs.declared.RowAnswer.the-variants.{Made, NotMade}
+use Rattle.row_maker.specs.declared.RowAnswer.{RowAnswer}
+use Rattle.row_maker.specs.declared.RowAnswer.the-variants.{Made, NotMade}
 use Rattle.diagram.specs.declared.Calibration.the-variants.{Calibrated, NotCalibrated}
-use Rattle.diagram.specs.Samples.{sampleAt, usable}
-use Rattle.diagram.specs.RowNumbers.{rowValues, rowNumbers, valueFits}
-use Rattle.diagram.specs.Calibration.{lengthsFit, samplesUsable, valuesFit, fitChecks, fittedDiagram, fittedValues, fitAs, rowAs, calibratedAs, fitOf, calibrationOf}
-
--- a check of one place
-pub test-fails : (refusal : ℕ → Refusal) (later : Answer) {fit : Bool} → fit ≡ false → Refused (refusal 0) ≡ orLater (record { places = 1; test = λ _. fit; refusal = refusal }) later
-unfolding orLater
-test-fails refusal later e = rw e
-
-pub test-passes : (refusal : ℕ → Refusal) (later : Answer) {fit : Bool} → fit ≡ true → later ≡ orLater (record { places = 1; test = λ _. fit; refusal = refusal }) later
-unfolding orLater
-test-passes refusal later e = rw e
+use Rattle.diagram.specs.Samples.{vehicleFits, lanesFit, sampleAt, usable}
+use Rattle.row_maker.specs.RowNumbers.{rowNumbers}
+use Rattle.row_maker.specs.Rows.{cellSettingsFit, valuesFit, rowAs, rowOf}
+use Rattle.row_maker.proofs.Answers.{test-passes, not-made-by, made-by}
+use Rattle.diagram.specs.Calibration.{lengthsFit, settingsFit, samplesUsable, fitChecks, fittedDiagram, fittedValues, fitAs, calibratedAs, fitOf, calibrationOf}
 
 -- the lengths fit where the samples are accepted
 pub accepted-lengths : (fit : Bool) (later : Answer) → Accepted ≡ orLater (lengths fit) later → fit ≡ true
@@ -60,13 +52,7 @@ lengths-fit settings flow occupancy e =
 pub tested : (settings : Settings) (flow occupancy : List Float) (i : ℕ) {sample : Sample} {r : Bool} → sample ≡ sampleAt settings flow occupancy i → r ≡ usable sample → r ≡ samplesUsable settings flow occupancy .test (i + 1)
 tested settings flow occupancy i read e = rw add-one (e ∙ ap usable read)
 
--- the four values fit where the check of number 11 finds nothing
-pub values-fit : (values : RowValues) {at : ℕ} → at ≡ least (valuesFit values) → 4 ≤ at → (valueFits 65_536 (values .v) ≡ true) × ((valueFits 65_536 (values .w) ≡ true) × ((valueFits 1_000_000 (values .capacity) ≡ true) × (valueFits 4_000_000 (values .jam) ≡ true)))
-values-fit values e h =
-    let fit = all-pass 4 (valuesFit values .test) e h in
-    (fit 0 (lit< tt), (fit 1 (lit< tt), (fit 2 (lit< tt), fit 3 (lit< tt))))
-
--- what an answer of the fit or of the row maker tells
+-- what an answer of the fit or of the calibration tells
 pub not-fitted-by : (a : Answer) (diagram : Diagram) {refusal : Refusal} → NotFitted refusal ≡ fitAs a diagram → Refused refusal ≡ a
 not-fitted-by Accepted diagram e = cc
 not-fitted-by (Refused r) diagram e = cc
@@ -74,14 +60,6 @@ not-fitted-by (Refused r) diagram e = cc
 pub fitted-by : (a : Answer) (diagram : Diagram) {found : Diagram} → Fitted found ≡ fitAs a diagram → (Accepted ≡ a) × (found ≡ diagram)
 fitted-by Accepted diagram e = (refl, cc)
 fitted-by (Refused r) diagram e = (cc, cc)
-
-pub not-made-by : (a : Answer) (values : RowValues) {refusal : Refusal} → NotMade refusal ≡ rowAs a values → Refused refusal ≡ a
-not-made-by Accepted values e = cc
-not-made-by (Refused r) values e = cc
-
-pub made-by : (a : Answer) (values : RowValues) {numbers : RowNumbers} → Made numbers ≡ rowAs a values → (Accepted ≡ a) × (numbers ≡ rowNumbers values)
-made-by Accepted values e = (refl, cc)
-made-by (Refused r) values e = (cc, cc)
 
 pub calibrated-by : (a : Answer) (diagram : Diagram) (values : RowValues) {found : Diagram} {numbers : RowNumbers} → Calibrated found numbers ≡ calibratedAs a diagram values → (Accepted ≡ a) × (numbers ≡ rowNumbers values)
 calibrated-by Accepted diagram values e = (refl, cc)
@@ -101,18 +79,28 @@ module _ (settings : Settings) (flow occupancy : List Float) where
   abbrev later : List Check
   later = valuesFit values ∷ []
 
+  -- where the fit is accepted, number 9 found nothing at place 0
+  pub settings-in-range : Accepted ≡ answer first → settingsFit settings ≡ true
+  settings-in-range e =
+      let after-1 = accepted-passes (lengths (lengthsFit settings flow occupancy)) _ (sym e) .1 in
+      accepted-passes (samplesUsable settings flow occupancy) _ after-1 .0 0 (omega arith)
+
+  pub cell-in-range : Accepted ≡ answer first → cellSettingsFit (settings .period) (settings .cell) ≡ true
+  cell-in-range e = both-hold (vehicleFits (settings .g) && lanesFit (settings .lanes)) _ (settings-in-range e) .1
+
   pub not-fitted : {fit : FitAnswer} {refusal : Refusal} → fit ≡ fitOf settings flow occupancy → fit ≡ NotFitted refusal → NotCalibrated refusal ≡ calibrationOf settings flow occupancy
   not-fitted e is = ap (λ a. calibratedAs a diagram values) (refused-stays first later (not-fitted-by (answer first) diagram (sym is ∙ e)))
 
-  -- the fit is a diagram, the values were worked out from it, and the row was made of them or not
-  module _ {fit : FitAnswer} {found : Diagram} {worked : RowValues} {row : RowAnswer} (e : fit ≡ fitOf settings flow occupancy) (is : fit ≡ Fitted found) (w : worked ≡ rowValues found (settings .period) (settings .cell)) (r : row ≡ rowAs (answer (valuesFit worked ∷ [])) worked) where
+  -- the fit is a diagram, and a row was made of it or not; under settings in range the row maker asks number 11 alone
+  module _ {fit : FitAnswer} {found : Diagram} {row : RowAnswer} (e : fit ≡ fitOf settings flow occupancy) (is : fit ≡ Fitted found) (r : row ≡ rowOf found (settings .period) (settings .cell)) where
     fitted : (Accepted ≡ answer first) × (found ≡ diagram)
     fitted = fitted-by (answer first) diagram (sym is ∙ e)
 
     row-is : row ≡ rowAs (answer later) values
     row-is =
         r
-        ∙ ap (λ v. rowAs (answer (valuesFit v ∷ [])) v) (w ∙ ap (λ d. rowValues d (settings .period) (settings .cell)) (fitted .1))
+        ∙ ap (λ d. rowOf d (settings .period) (settings .cell)) (fitted .1)
+        ∙ ap (λ a. rowAs a values) (sym (test-passes _ (answer later) (cell-in-range (fitted .0))))
 
     pub not-made : {refusal : Refusal} → row ≡ NotMade refusal → NotCalibrated refusal ≡ calibrationOf settings flow occupancy
     not-made made =

@@ -24,19 +24,21 @@ use Rattle.diagram.specs.declared.Settings.{Settings}
 use Rattle.diagram.specs.declared.Sample.{Sample}
 use Rattle.diagram.specs.declared.Sample.the-variants.{Good, Unusable}
 use Rattle.diagram.specs.declared.Cause.the-variants.{FlowNotFinite, FlowOutOfRange, OccupancyNotFinite, OccupancyOutOfRange}
-use Rattle.diagram.specs.declared.Diagram.{Diagram}
-use Rattle.diagram.specs.declared.RowValues.{RowValues}
-use Rattle.diagram.specs.declared.RowNumbers.{RowNumbers}
+use Rattle.row_maker.specs.declared.Diagram.{Diagram}
+use Rattle.row_maker.specs.declared.RowValues.{RowValues}
+use Rattle.row_maker.specs.declared.RowNumbers.{RowNumbers}
 use Rattle.diagram.specs.declared.FitAnswer.the-variants.{Fitted}
-use Rattle.diagram.specs.declared.RowAnswer.the-variants.{Made}
+use Rattle.row_maker.specs.declared.RowAnswer.the-variants.{Made}
 use Rattle.diagram.specs.declared.Calibration.the-variants.{Calibrated}
-use Rattle.diagram.specs.Doubles.{_⊗_, _⊘_, double, finite, between, isZero, unsigned}
-use Rattle.diagram.specs.Samples.{vehicleFits, lanesFit, cellFits, flowInRange, occupancyInRange, density, sampleOf, sampleAt, samples}
+use Rattle.row_maker.specs.Doubles.{_⊗_, _⊘_, double, finite, between, isZero, unsigned}
+use Rattle.diagram.specs.Samples.{vehicleFits, lanesFit, flowInRange, occupancyInRange, density, sampleOf, sampleAt, samples}
 use Rattle.diagram.specs.Diagrams.{freeOf, fits}
-use Rattle.diagram.specs.RowNumbers.{share, rowValues, rowNumbers, roundedDown, valueFits}
-use Rattle.diagram.specs.Calibration.{lengthsFit, cellSettingsFit, settingsFit, samplesUsable, settingUsable, diagramFits, valuesFit, rowChecks, fitChecks, calibrationChecks, fittedDiagram, fittedValues, fitOf, rowOf, calibrationOf}
-use Rattle.diagram.proofs.Rounding.{double-positive, in-limits, rounded-least, rounded-most}
-use Rattle.diagram.proofs.Answers.{accepted-lengths, lengths-fit, values-fit, fitted-by, made-by, calibrated-by}
+use Rattle.row_maker.specs.RowNumbers.{share, rowValues, rowNumbers, roundedDown, valueFits}
+use Rattle.diagram.specs.Calibration.{lengthsFit, settingsFit, samplesUsable, diagramFits, fitChecks, calibrationChecks, fittedDiagram, fittedValues, fitOf, calibrationOf}
+use Rattle.row_maker.specs.Rows.{cellFits, cellSettingsFit, settingUsable, valuesFit, rowChecks, rowOf}
+use Rattle.row_maker.proofs.Rounding.{double-positive, in-limits, rounded-least, rounded-most}
+use Rattle.row_maker.proofs.Answers.{values-fit, made-by}
+use Rattle.diagram.proofs.Answers.{accepted-lengths, lengths-fit, fitted-by, calibrated-by, settings-in-range, cell-in-range}
 use Rattle.diagram.proofs.Passes.{samples-length}
 use Rattle.diagram.proofs.Signs.{UpTo, NotNegative, AtLeastOneOver, up-to-more, not-negative, le-value, double-up-to, mul-up-to, div-up-to, mul-sign, div-sign, above-sign}
 use Rattle.diagram.proofs.NoNan.{Of, Each, each-built, each-drop, each-take, Usual, Sound, sound}
@@ -204,7 +206,7 @@ module _ (settings : Settings) (flow occupancy : List Float) {diagram : Diagram}
   after-9 = accepted-passes (samplesUsable settings flow occupancy) _ after-1
 
   settings-fit : settingsFit settings ≡ true
-  settings-fit = all-pass (samplesUsable settings flow occupancy .places) (samplesUsable settings flow occupancy .test) refl (after-9 .0) 0 (omega arith)
+  settings-fit = settings-in-range settings flow occupancy (is .0)
 
   fits-is : fits (freeOf settings flow occupancy) all ≡ true
   fits-is = all-pass 1 (diagramFits settings flow occupancy .test) refl (accepted-passes (diagramFits settings flow occupancy) _ (after-9 .1) .0) 0 (lit< tt)
@@ -229,9 +231,7 @@ module _ (settings : Settings) (flow occupancy : List Float) {diagram : Diagram}
   -- number 11 is never asked of a NaN
   pub fitted-no-nan : NoNan (rowValues diagram (settings .period) (settings .cell))
   fitted-no-nan =
-      values-no-nan (settings .period) (settings .cell)
-      (both-hold (vehicleFits (settings .g) && lanesFit (settings .lanes)) (cellSettingsFit (settings .period) (settings .cell)) settings-fit .1)
-      diagram fitted-sound
+      values-no-nan (settings .period) (settings .cell) (cell-in-range settings flow occupancy (is .0)) diagram fitted-sound
 
 -- ---- a row that was made, in a cell without ramps
 

@@ -10,10 +10,10 @@ use Rattle.refusals.specs.Checks.{answer}
 use Rattle.diagram.specs.declared.FitAnswer.the-variants.{Fitted, NotFitted}
 use Rattle.diagram.specs.declared.Sample.{Sample}
 use Rattle.diagram.specs.declared.Sums.{Sums}
-use Rattle.diagram.specs.declared.Diagram.{Diagram}
-use Rattle.diagram.specs.Doubles.{_⊕_, _⊘_, isZero}
+use Rattle.row_maker.specs.declared.Diagram.{Diagram}
+use Rattle.row_maker.specs.Doubles.{_⊕_, _⊘_, isZero}
 use Rattle.diagram.specs.Calibration.{fitAs}
-use Rattle.diagram.proofs.Answers.{test-fails, test-passes}
+use Rattle.row_maker.proofs.Answers.{test-fails, test-passes}
 use Rattle.diagram.specs.Diagrams.{sum, ratio, densitySquared, speedSums, largestFlow, above, excessSquared, waveSums, diagramOf, isEmpty, fits}
 
 -- nothing sums to zero

@@ -1,6 +1,5 @@
 pub mod Tests
 pub mod Passes
-pub mod Rounding
 pub mod Answers
 pub mod Fitting
 pub mod Signs

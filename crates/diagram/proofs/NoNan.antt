@@ -17,8 +17,8 @@ use Rattle.diagram.specs.declared.Sample.{Sample}
 use Rattle.diagram.specs.declared.Sample.the-variants.{Good, Unusable}
 use Rattle.whole.proofs.Tests.{both-hold}
 use Rattle.diagram.specs.declared.Sums.{Sums}
-use Rattle.diagram.specs.declared.Diagram.{Diagram}
-use Rattle.diagram.specs.Doubles.{_⊕_, _⊖_, _⊘_, double, isZero}
+use Rattle.row_maker.specs.declared.Diagram.{Diagram}
+use Rattle.row_maker.specs.Doubles.{_⊕_, _⊖_, _⊘_, double, isZero}
 use Rattle.diagram.specs.Diagrams.{adds, sum, ratio, flowByDensity, densitySquared, speedSums, larger, largestFlow, isAbove, above, gapByExcess, excessSquared, waveSums, diagramOf, isEmpty, fits}
 use Rattle.diagram.proofs.Signs.{UpTo, NotNegative, Above, AtMost, up-to-more, not-negative, at-most-up-to, double-up-to, add-up-to, mul-up-to, sub-up-to, div-above-sign, add-sign, above-zero, less-at-most, not-less-at-most, at-most-self, at-most-trans}
 

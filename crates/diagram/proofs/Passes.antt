@@ -15,7 +15,7 @@ use Rattle.diagram.specs.declared.Sample.{Sample}
 use Rattle.diagram.specs.declared.Sample.the-variants.{Unusable}
 use Rattle.diagram.specs.declared.Cause.the-variants.{FlowNotFinite}
 use Rattle.diagram.specs.declared.Sums.{Sums}
-use Rattle.diagram.specs.Doubles.{double}
+use Rattle.row_maker.specs.Doubles.{double}
 use Rattle.diagram.specs.Samples.{sampleAt, samples, stretch}
 use Rattle.diagram.specs.Diagrams.{adds, isAbove, above, addsAbove}
 

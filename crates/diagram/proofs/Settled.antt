@@ -5,8 +5,6 @@ use Rattle.diagram.proofs.read_sample.Kinds as read-sample-kinds
 use Rattle.diagram.proofs.read_sample.Reads as read-sample
 use Rattle.diagram.proofs.fit.Kinds as fit-kinds
 use Rattle.diagram.proofs.fit.Reads as fit
-use Rattle.diagram.proofs.make_row.Kinds as make-row-kinds
-use Rattle.diagram.proofs.make_row.Reads as make-row
 use Rattle.diagram.proofs.calibrate.Kinds as calibrate-kinds
 use Rattle.diagram.proofs.calibrate.Reads as calibrate
 
@@ -15,9 +13,6 @@ read-sample-settles κs a y z e f = settled
 
 pub fit-settles : Settles _ fit-kinds.ps fit-kinds.r fit.Learnt
 fit-settles κs a y z e f = settled
-
-pub make-row-settles : Settles _ make-row-kinds.ps make-row-kinds.r make-row.Learnt
-make-row-settles κs a y z e f = settled
 
 pub calibrate-settles : Settles _ calibrate-kinds.ps calibrate-kinds.r calibrate.Learnt
 calibrate-settles κs a y z e f = settled

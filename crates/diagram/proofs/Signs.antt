@@ -14,7 +14,7 @@ use lib.Ieee.Exact.{HasValue, odd-sign}
 use lib.Ieee.Order.{round-mono}
 use lib.Ieee.Back.{round-whole}
 use lib.Ieee.Positive as positive
-use Rattle.diagram.specs.Doubles.{_⊕_, _⊖_, _⊗_, _⊘_, double, isZero}
+use Rattle.row_maker.specs.Doubles.{_⊕_, _⊖_, _⊗_, _⊘_, double, isZero}
 
 -- finite, not negative, and at most a whole number
 abbrev pub UpTo : ℕ → Float → Type 0

@@ -1,18 +1,9 @@
--- What a test in the code tells of the test in the definitions, and how the code's numbers are those of the definitions.
--- Assumes nothing.
+-- Finite doubles: how the code tests for one, and that a flow or an occupancy in range is one. Assumes nothing.
 use mathlib.Core.Path.{_≡_, refl, sym, _∙_}
-use mathlib.Core.Bool.{Bool, true, false, not, _&&_, false≢true}
-use borrow.Author.Tests.{not-true, not-false}
+use mathlib.Core.Bool.{Bool, true, false, _&&_, false≢true}
 use lib.Ieee.{Float, nan, inf, fin, lt, le, ofInt}
-use Rattle.diagram.specs.Doubles.{finite}
+use Rattle.row_maker.specs.Doubles.{finite}
 use Rattle.diagram.specs.Samples.{flowInRange, occupancyInRange}
-
--- r is what the code found of a test, and `if !r` went one way or the other
-pub fails : {r test : Bool} → r ≡ test → not r ≡ true → test ≡ false
-fails e h = sym e ∙ not-true _ h
-
-pub holds : {r test : Bool} → r ≡ test → not r ≡ false → test ≡ true
-holds e h = sym e ∙ not-false _ h
 
 -- strictly between the two infinities
 pub between-infinities : (x : Float) → (lt (inf true) x && lt x (inf false)) ≡ finite x

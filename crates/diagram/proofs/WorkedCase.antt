@@ -5,13 +5,13 @@ use mathlib.Core.List.{List, [], _∷_}
 use lib.Ieee.{Float, ofInt, add, sub, mul, div, lt, le, eq}
 use Rattle.refusals.specs.Checks.{orLater}
 use Rattle.diagram.specs.declared.Settings.{Settings}
-use Rattle.diagram.specs.declared.Diagram.{Diagram}
-use Rattle.diagram.specs.declared.RowNumbers.{RowNumbers}
+use Rattle.row_maker.specs.declared.Diagram.{Diagram}
+use Rattle.row_maker.specs.declared.RowNumbers.{RowNumbers}
 use Rattle.diagram.specs.declared.Calibration.the-variants.{Calibrated}
-use Rattle.diagram.specs.Doubles.{_⊘_, double}
+use Rattle.row_maker.specs.Doubles.{_⊘_, double}
 use Rattle.diagram.specs.Samples.{sampleOf, samples}
 use Rattle.diagram.specs.Diagrams.{diagramOf, fits}
-use Rattle.diagram.specs.RowNumbers.{rowNumbers}
+use Rattle.row_maker.specs.RowNumbers.{rowNumbers}
 use Rattle.diagram.specs.Calibration.{calibrationOf}
 
 abbrev settings : Settings

@@ -1,27 +1,26 @@
--- Document 01, "Refusal numbers" 1, 9, 10 and 11: what is asked of samples, settings, a fit and a row, and what is answered.
-use Prim.Native.Nat.{ℕ, _+_}
-use mathlib.Core.Bool.{Bool, true, _&&_}
+-- Document 01, "Refusal numbers" 1, 9, 10 and 11: what is asked of samples, settings, a fit and a calibration, and what is answered.
+use Prim.Native.Nat.{_+_}
+use mathlib.Core.Bool.{Bool, _&&_}
 use mathlib.Core.List.{List, [], _∷_, _++_}
 use lib.Dec.{leb, eqb}
 use lib.Ieee.{Float}
-use lib.ListN.{length, getD}
+use lib.ListN.{length}
 use Rattle.whole.specs.Sums.{atPosition}
-use Rattle.refusals.specs.declared.Refusal.the-variants.{Sample, Fit, RowValue}
+use Rattle.refusals.specs.declared.Refusal.the-variants.{Sample, Fit}
 use Rattle.refusals.specs.declared.Answer.{Answer}
 use Rattle.refusals.specs.declared.Answer.the-variants.{Accepted, Refused}
 use Rattle.refusals.specs.Checks.{Check, answer, lengths}
 use Rattle.diagram.specs.declared.Settings.{Settings}
-use Rattle.diagram.specs.declared.Diagram.{Diagram}
-use Rattle.diagram.specs.declared.RowValues.{RowValues}
+use Rattle.row_maker.specs.declared.Diagram.{Diagram}
+use Rattle.row_maker.specs.declared.RowValues.{RowValues}
 use Rattle.diagram.specs.declared.FitAnswer.{FitAnswer}
 use Rattle.diagram.specs.declared.FitAnswer.the-variants.{Fitted, NotFitted}
-use Rattle.diagram.specs.declared.RowAnswer.{RowAnswer}
-use Rattle.diagram.specs.declared.RowAnswer.the-variants.{Made, NotMade}
 use Rattle.diagram.specs.declared.Calibration.{Calibration}
 use Rattle.diagram.specs.declared.Calibration.the-variants.{Calibrated, NotCalibrated}
-use Rattle.diagram.specs.Samples.{vehicleFits, lanesFit, periodFits, cellFits, sampleAt, usable, samples}
+use Rattle.diagram.specs.Samples.{vehicleFits, lanesFit, sampleAt, usable, samples}
 use Rattle.diagram.specs.Diagrams.{freeOf, diagramOf, fits}
-use Rattle.diagram.specs.RowNumbers.{rowValues, rowNumbers, valueFits}
+use Rattle.row_maker.specs.RowNumbers.{rowValues, rowNumbers}
+use Rattle.row_maker.specs.Rows.{cellSettingsFit, valuesFit}
 
 -- 1: equally long lists, of at most 65,536 samples, and a free stretch that ends neither past the samples nor before it starts
 abbrev pub lengthsFit : Settings → List Float → List Float → Bool
@@ -32,9 +31,6 @@ lengthsFit settings flow occupancy =
     && leb (settings .start) (settings .end)
 
 -- 9: a setting is at place 0; a sample counts from 1
-abbrev pub cellSettingsFit : ℕ → Float → Bool
-cellSettingsFit period cell = periodFits period && cellFits cell
-
 abbrev pub settingsFit : Settings → Bool
 settingsFit settings =
     vehicleFits (settings .g) && lanesFit (settings .lanes) && cellSettingsFit (settings .period) (settings .cell)
@@ -47,30 +43,12 @@ samplesUsable settings flow occupancy =
       refusal = Sample;
     }
 
-abbrev pub settingUsable : ℕ → Float → Check
-settingUsable period cell = record { places = 1; test = λ _. cellSettingsFit period cell; refusal = Sample }
-
 -- 10
 abbrev pub diagramFits : Settings → List Float → List Float → Check
 diagramFits settings flow occupancy =
     record { places = 1; test = λ _. fits (freeOf settings flow occupancy) (samples settings flow occupancy); refusal = λ _. Fit }
 
--- 11: 1 to 4 for v, w, F, J
-abbrev pub valuesFit : RowValues → Check
-valuesFit values =
-    record {
-      places = 4;
-      test = λ k. getD
-          (valueFits 65_536 (values .v)
-          ∷ valueFits 65_536 (values .w)
-          ∷ valueFits 1_000_000 (values .capacity)
-          ∷ valueFits 4_000_000 (values .jam)
-          ∷ [])
-          k true;
-      refusal = λ k. RowValue (k + 1);
-    }
-
--- What is asked of samples (1, 9), of a fit (1, 9, 10), of a row (9, 11), and of a calibration (1, 9, 10, 11)
+-- What is asked of samples (1, 9), of a fit (1, 9, 10), and of a calibration (1, 9, 10, 11)
 
 abbrev pub sampleChecks : Settings → List Float → List Float → List Check
 sampleChecks settings flow occupancy =
@@ -78,9 +56,6 @@ sampleChecks settings flow occupancy =
 
 abbrev pub fitChecks : Settings → List Float → List Float → List Check
 fitChecks settings flow occupancy = sampleChecks settings flow occupancy ++ (diagramFits settings flow occupancy ∷ [])
-
-abbrev pub rowChecks : Diagram → ℕ → Float → List Check
-rowChecks diagram period cell = settingUsable period cell ∷ valuesFit (rowValues diagram period cell) ∷ []
 
 abbrev pub fittedDiagram : Settings → List Float → List Float → Diagram
 fittedDiagram settings flow occupancy = diagramOf (freeOf settings flow occupancy) (samples settings flow occupancy)
@@ -97,19 +72,12 @@ abbrev pub fitAs : Answer → Diagram → FitAnswer
 fitAs Accepted diagram = Fitted diagram
 fitAs (Refused refusal) diagram = NotFitted refusal
 
-abbrev pub rowAs : Answer → RowValues → RowAnswer
-rowAs Accepted values = Made (rowNumbers values)
-rowAs (Refused refusal) values = NotMade refusal
-
 abbrev pub calibratedAs : Answer → Diagram → RowValues → Calibration
 calibratedAs Accepted diagram values = Calibrated diagram (rowNumbers values)
 calibratedAs (Refused refusal) diagram values = NotCalibrated refusal
 
 abbrev pub fitOf : Settings → List Float → List Float → FitAnswer
 fitOf settings flow occupancy = fitAs (answer (fitChecks settings flow occupancy)) (fittedDiagram settings flow occupancy)
-
-abbrev pub rowOf : Diagram → ℕ → Float → RowAnswer
-rowOf diagram period cell = rowAs (answer (rowChecks diagram period cell)) (rowValues diagram period cell)
 
 abbrev pub calibrationOf : Settings → List Float → List Float → Calibration
 calibrationOf settings flow occupancy =

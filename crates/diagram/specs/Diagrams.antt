@@ -7,8 +7,8 @@ use Rattle.diagram.specs.declared.Settings.{Settings}
 use Rattle.diagram.specs.declared.Sample.{Sample}
 use Rattle.diagram.specs.declared.Sample.the-variants.{Good, Unusable}
 use Rattle.diagram.specs.declared.Sums.{Sums}
-use Rattle.diagram.specs.declared.Diagram.{Diagram}
-use Rattle.diagram.specs.Doubles.{_⊕_, _⊖_, _⊗_, _⊘_, double, isZero}
+use Rattle.row_maker.specs.declared.Diagram.{Diagram}
+use Rattle.row_maker.specs.Doubles.{_⊕_, _⊖_, _⊗_, _⊘_, double, isZero}
 use Rattle.diagram.specs.Samples.{samples, stretch}
 
 -- all sums start at 0 and run in sample order

@@ -1,5 +1,3 @@
-pub mod Doubles
 pub mod Samples
 pub mod Diagrams
-pub mod RowNumbers
 pub mod Calibration

@@ -1,4 +1,4 @@
--- Document 01, "Calibration": the settings, and how a sample is read.
+-- Document 01, "Calibration": the settings g and lanes, and how a sample is read.
 use Prim.Native.Nat.{ℕ, _-_}
 use mathlib.Core.Bool.{Bool, true, false}
 use mathlib.Core.List.{List}
@@ -10,20 +10,14 @@ use Rattle.diagram.specs.declared.Settings.{Settings}
 use Rattle.diagram.specs.declared.Sample.{Sample}
 use Rattle.diagram.specs.declared.Sample.the-variants.{Good, Unusable}
 use Rattle.diagram.specs.declared.Cause.the-variants.{FlowNotFinite, FlowOutOfRange, OccupancyNotFinite, OccupancyOutOfRange}
-use Rattle.diagram.specs.Doubles.{_⊗_, _⊘_, double, finite, between, unsigned}
+use Rattle.row_maker.specs.Doubles.{_⊗_, _⊘_, double, finite, between, unsigned}
 
--- g 1/1,024 to 1/16 mile; lanes 1 to 12; T 1 to 60 whole seconds; L 1/64 to 8 miles
+-- g 1/1,024 to 1/16 mile; lanes 1 to 12; the ranges of T and L stand with what is asked of a row
 abbrev pub vehicleFits : Float → Bool
 vehicleFits g = between (double 1 ⊘ double 1_024) (double 1 ⊘ double 16) g
 
 abbrev pub lanesFit : ℕ → Bool
 lanesFit lanes = within 1 12 lanes
-
-abbrev pub periodFits : ℕ → Bool
-periodFits period = within 1 60 period
-
-abbrev pub cellFits : Float → Bool
-cellFits cell = between (double 1 ⊘ double 64) (double 8) cell
 
 -- flow 0 to 20,000 veh/h, occupancy 0 to 1
 abbrev pub flowInRange : Float → Bool

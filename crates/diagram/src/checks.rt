@@ -1,13 +1,11 @@
-// The checks of document 01's numbers 1, 9 and 11 on samples, settings and row values. A check answers the least place
-// that fails its test, counted from 0, or how many places there are where none fails.
+// The checks of document 01's numbers 1 and 9 on samples and settings.
 ghost use mathlib.Core.Path.{_≡_};
 ghost use Prim.Native.Nat.{_<_};
 ghost use lib.ListN.{length};
 ghost use Rattle.refusals.specs.Checks.{least};
 ghost use Rattle.diagram.specs.Samples.{usable, samples};
 ghost use Rattle.diagram.specs.Diagrams.{largestFlow};
-ghost use Rattle.diagram.specs.Calibration.{lengthsFit, cellSettingsFit, settingsFit, samplesUsable, valuesFit};
-use crate::RowValues;
+ghost use Rattle.diagram.specs.Calibration.{lengthsFit, settingsFit, samplesUsable};
 use crate::Sample;
 use crate::Settings;
 use crate::doubles::between;
@@ -24,20 +22,13 @@ pub(crate) fn lengths_fit(flow: &[f64], occupancy: &[f64], settings: Settings) -
         & (settings.start <= settings.end)
 }
 
-// Whether T and L are in their ranges.
-pub(crate) fn cell_settings_fit(period: u32, cell: f64) -> bool
-    ensures { λ r. ⌜ r ≡ cellSettingsFit period cell ⌝ }
-{
-    whole::within(1, 60, period) & between(1.0 / 64.0, 8.0, cell)
-}
-
 // Whether each setting is in its range.
 fn settings_fit(settings: Settings) -> bool
     ensures { λ r. ⌜ r ≡ settingsFit settings ⌝ }
 {
     between(1.0 / 1_024.0, 1.0 / 16.0, settings.g)
         & whole::within(1, 12, settings.lanes)
-        & cell_settings_fit(settings.period, settings.cell)
+        & row_maker::cell_settings_fit(settings.period, settings.cell)
 }
 
 fn usable(sample: Sample) -> bool
@@ -81,23 +72,4 @@ pub(crate) fn samples_usable(flow: &[f64], occupancy: &[f64], settings: Settings
         at: n + 1,
         capacity,
     }
-}
-
-// Number 11: whether the value of v, w, F or J is at least 1 and at most its limit, in this order.
-pub(crate) fn values_fit(values: RowValues) -> usize
-    ensures { λ r. ⌜ r ≡ least (valuesFit values) ⌝ }
-{
-    if !between(1.0, 65_536.0, values.v) {
-        return 0;
-    }
-    if !between(1.0, 65_536.0, values.w) {
-        return 1;
-    }
-    if !between(1.0, 1_000_000.0, values.capacity) {
-        return 2;
-    }
-    if !between(1.0, 4_000_000.0, values.jam) {
-        return 3;
-    }
-    4
 }

@@ -1,7 +1,7 @@
 // Doubles as document 01 reads them: finite, in a range, with minus zero counted as zero; and one of two picked by a test.
 ghost use mathlib.Core.Path.{_≡_};
 ghost use Rattle.whole.specs.Search.{pick};
-ghost use Rattle.diagram.specs.Doubles.{finite, between, unsigned};
+ghost use Rattle.row_maker.specs.Doubles.{finite, between, unsigned};
 
 // Neither a NaN nor an infinity: strictly between the two infinities.
 pub(crate) fn finite(x: f64) -> bool

@@ -1,5 +1,5 @@
-// Calibration: detector samples of flow and occupancy become a triangular diagram, and the diagram the four numbers v, w,
-// F and J of a cell row. Every sum and quotient is rounded once, in document 01's order.
+// Calibration: detector samples of flow and occupancy become a triangular diagram, and `calibrate` has `row_maker` make the
+// cell row of it too. Every sum and quotient is rounded once, in document 01's order.
 ghost use mathlib.Core.Path.{_≡_};
 ghost use Prim.Native.Nat.{ℕ, _≤_, _<_};
 ghost use mathlib.Core.Bool.{false, _&&_};
@@ -10,14 +10,16 @@ ghost use Rattle.refusals.specs.Checks.{answer};
 ghost use Rattle.diagram.specs.declared.Sample.the-variants.{Unusable};
 ghost use Rattle.diagram.specs.Samples.{flowInRange, occupancyInRange, sampleOf, sampleAt, samples};
 ghost use Rattle.diagram.specs.Diagrams.{largestFlow};
-ghost use Rattle.diagram.specs.Calibration.{diagramFits, valuesFit, fittedDiagram, fitAs, rowAs, fitOf, rowOf, calibrationOf};
+ghost use Rattle.diagram.specs.Calibration.{diagramFits, fittedDiagram, fitAs, fitOf, calibrationOf};
 
 mod checks;
 mod doubles;
-mod row;
 mod totals;
 
 use refusals::Refusal;
+use row_maker::Diagram;
+use row_maker::RowAnswer;
+use row_maker::RowNumbers;
 
 // What a calibration is told beside its samples: the effective vehicle length g in miles, the lanes, the period T in whole
 // seconds, the cell's length L in miles, and the stretch of samples in free flow, counted from 0, the end not included.
@@ -50,38 +52,9 @@ pub struct Sums {
     pub bottom: f64,
 }
 
-pub struct Diagram {
-    pub speed: f64,
-    pub capacity: f64,
-    pub critical: f64,
-    pub wave: f64,
-    pub jam: f64,
-}
-
-// v, w, F and J before rounding.
-pub struct RowValues {
-    pub v: f64,
-    pub w: f64,
-    pub capacity: f64,
-    pub jam: f64,
-}
-
-// v, w, F and J of a cell row.
-pub struct RowNumbers {
-    pub v: u32,
-    pub w: u32,
-    pub capacity: u32,
-    pub jam: u32,
-}
-
 pub enum FitAnswer {
     Fitted(Diagram),
     NotFitted(Refusal),
-}
-
-pub enum RowAnswer {
-    Made(RowNumbers),
-    NotMade(Refusal),
 }
 
 pub enum Calibration {
@@ -178,27 +151,6 @@ pub fn fit(flow: &[f64], occupancy: &[f64], settings: Settings) -> FitAnswer
     fit_samples(flow, occupancy, settings, seen.capacity)
 }
 
-// Number 11, and the row numbers where it does not apply.
-fn round_values(values: RowValues) -> RowAnswer
-    ensures { λ r. ⌜ r ≡ rowAs (answer (valuesFit values ∷ [])) values ⌝ }
-{
-    let at = checks::values_fit(values);
-    if at < 4 {
-        return RowAnswer::NotMade(Refusal::RowValue(at + 1));
-    }
-    RowAnswer::Made(row::row_numbers(values))
-}
-
-// Makes v, w, F and J of a diagram for the period T and the cell length L, or refuses with number 9 or 11.
-pub fn make_row(diagram: Diagram, period: u32, cell: f64) -> RowAnswer
-    ensures { λ r. ⌜ r ≡ rowOf diagram period cell ⌝ }
-{
-    if !checks::cell_settings_fit(period, cell) {
-        return RowAnswer::NotMade(Refusal::Sample(0));
-    }
-    round_values(row::row_values(diagram, period, cell))
-}
-
 // From samples to the diagram and the row numbers, or refuses with number 1, 9, 10 or 11.
 pub fn calibrate(flow: &[f64], occupancy: &[f64], settings: Settings) -> Calibration
     ensures { λ r. ⌜ r ≡ calibrationOf settings (now (flow .entry)) (now (occupancy .entry)) ⌝ }
@@ -207,8 +159,7 @@ pub fn calibrate(flow: &[f64], occupancy: &[f64], settings: Settings) -> Calibra
     match fitted {
         FitAnswer::NotFitted(refusal) => Calibration::NotCalibrated(refusal),
         FitAnswer::Fitted(diagram) => {
-            let values = row::row_values(diagram, settings.period, settings.cell);
-            let made = round_values(values);
+            let made = row_maker::make_row(diagram, settings.period, settings.cell);
             match made {
                 RowAnswer::NotMade(refusal) => Calibration::NotCalibrated(refusal),
                 RowAnswer::Made(numbers) => Calibration::Calibrated(diagram, numbers),

@@ -8,7 +8,7 @@ use Rattle.refusals.specs.Checks.{answer}
 use Rattle.corridor.specs.Acceptance.{rowChecks}
 use Rattle.period.specs.Sharing.{asymmetric}
 use Rattle.period.specs.Period.{sheetOf, stateAfter}
-use Rattle.period.specs.Account.{demanded, leftRoad}
+use Rattle.ledger.specs.Account.{demanded, leftRoad}
 use Rattle.run.specs.Run.{isAccepted}
 use Rattle.recut.specs.Recut.{newState, recutChecks}
 

@@ -1,9 +1,9 @@
 // Document 01's worked calibration, and after it a calibration that is refused with each of its numbers.
 use diagram::Calibration;
-use diagram::Diagram;
-use diagram::RowNumbers;
 use diagram::Settings;
 use refusals::Answer;
+use row_maker::Diagram;
+use row_maker::RowNumbers;
 
 // Prints the whole part of a double from 0 to 2^64, which is all of it for those below; else a question mark.
 fn print_whole(x: f64) {

@@ -23,12 +23,12 @@ use Rattle.run.specs.declared.Ran.{Ran}
 use Rattle.run.specs.Run.{RunDone}
 use Rattle.recut.specs.Recut.{RecutDone}
 use Rattle.diagram.specs.declared.Settings.{Settings}
-use Rattle.diagram.specs.declared.Diagram.{Diagram}
-use Rattle.diagram.specs.declared.RowValues.{RowValues}
-use Rattle.diagram.specs.declared.RowNumbers.{RowNumbers}
+use Rattle.row_maker.specs.declared.Diagram.{Diagram}
+use Rattle.row_maker.specs.declared.RowValues.{RowValues}
+use Rattle.row_maker.specs.declared.RowNumbers.{RowNumbers}
 use Rattle.diagram.specs.declared.Calibration.{Calibration}
 use Rattle.diagram.specs.declared.Calibration.the-variants.{Calibrated, NotCalibrated}
-use Rattle.diagram.specs.RowNumbers.{rowNumbers}
+use Rattle.row_maker.specs.RowNumbers.{rowNumbers}
 use Rattle.diagram.specs.Calibration.{calibrationChecks, fittedDiagram, fittedValues, calibratedAs, calibrationOf}
 use Rattle.figwimple.specs.Words.{HALF, wordOf, Placed}
 use Rattle.figwimple.specs.Calls.{PeriodCalled, RunCalled, RecutCalled, fiveOf, fourOf, resultsFit, CalibrateCalled}

@@ -15,7 +15,8 @@ use Rattle.refusals.specs.declared.Answer.the-variants.{Accepted, Refused}
 use Rattle.layout.specs.Layout.{cells, demandLength}
 use Rattle.refusals.specs.Refusals.{placeOf}
 use Rattle.refusals.specs.Checks.{Check, least, orLater, answer, whenAccepted, lengths}
-use Rattle.corridor.specs.Acceptance.{tableLengthFits, stateLengthsFit, rowLengthsFit, tableNumbers, stateInRange, stateNumbers, demandNumbers, tableChecks, stateChecks, rowChecks, bothTables}
+use Rattle.tables.specs.Tables.{tableLengthFits, tableNumbers, tableChecks, bothTables}
+use Rattle.corridor.specs.Acceptance.{stateLengthsFit, rowLengthsFit, stateInRange, stateNumbers, demandNumbers, stateChecks, rowChecks}
 use Rattle.refusals.proofs.Answers.{accepted-passes}
 use Rattle.whole.proofs.Tests.{both-hold}
 use Rattle.corridor.proofs.Lengths.{cells-fit}
@@ -23,8 +24,9 @@ use Rattle.period.specs.Period.{periodChecks}
 use Rattle.layout.specs.Sheet.{sheetLength}
 use Rattle.run.specs.Run.{rows, rowOf, stateAfterPeriods, runListsFit, runChecks, isAccepted, rowAnswer, completed, rowsAnswer, periodsRun, runAnswer}
 use Rattle.recut.specs.Recut.{recutListsFit, piecesNumbers, recutChecks}
+use Rattle.row_maker.specs.Rows.{valuesFit}
 use Rattle.diagram.specs.declared.Settings.{Settings}
-use Rattle.diagram.specs.Calibration.{lengthsFit, samplesUsable, diagramFits, valuesFit, fittedValues, calibrationChecks}
+use Rattle.diagram.specs.Calibration.{lengthsFit, samplesUsable, diagramFits, fittedValues, calibrationChecks}
 use Rattle.diagram.proofs.Answers.{lengths-fit}
 use Rattle.figwimple.specs.Words.{HALF, Placed}
 

@@ -13,9 +13,9 @@ use Rattle.period.specs.Period.{periodChecks, PeriodDone}
 use Rattle.run.specs.Run.{periodsRun, runAnswer, stateAfterPeriods, sheetAfterPeriods}
 use Rattle.recut.specs.Recut.{recutChecks, RecutDone}
 use Rattle.diagram.specs.declared.Settings.{Settings}
-use Rattle.diagram.specs.declared.Diagram.{Diagram}
-use Rattle.diagram.specs.declared.RowNumbers.{RowNumbers}
-use Rattle.diagram.specs.RowNumbers.{rowNumbers}
+use Rattle.row_maker.specs.declared.Diagram.{Diagram}
+use Rattle.row_maker.specs.declared.RowNumbers.{RowNumbers}
+use Rattle.row_maker.specs.RowNumbers.{rowNumbers}
 use Rattle.diagram.specs.Calibration.{calibrationChecks, fittedDiagram, fittedValues}
 use Rattle.figwimple.specs.Words.{wordOf, withLists}
 

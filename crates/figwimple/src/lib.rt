@@ -3,15 +3,16 @@
 ghost use mathlib.Core.Path.{_≡_};
 ghost use lib.ListN.{length};
 ghost use Rattle.refusals.specs.Checks.{answer};
-ghost use Rattle.corridor.specs.Acceptance.{tableChecks, stateChecks, rowChecks};
+ghost use Rattle.tables.specs.Tables.{tableChecks};
+ghost use Rattle.corridor.specs.Acceptance.{stateChecks, rowChecks};
 ghost use Rattle.figwimple.specs.Words.{wordOf, Placed};
 ghost use Rattle.figwimple.specs.Calls.{PeriodCalled, RunCalled, RecutCalled, settingsOf, fiveOf, fourOf, resultsFit, CalibrateCalled};
 use diagram::Calibration;
-use diagram::Diagram;
-use diagram::RowNumbers;
 use diagram::Settings;
 use refusals::Answer;
 use refusals::Refusal;
+use row_maker::Diagram;
+use row_maker::RowNumbers;
 
 // The word of an answer whose place is below 2^32.
 fn word(answered: Answer) -> u64
@@ -33,7 +34,7 @@ fn word(answered: Answer) -> u64
 pub extern "C" fn figwimple_accept_table(table: &[u32]) -> u64
     ensures { λ r. ⌜ r ≡ wordOf (answer (tableChecks (now (table .entry)))) ⌝ }
 {
-    word(corridor::accept_table(table))
+    word(tables::accept_table(table))
 }
 
 // Whether a state is accepted under a table: numbers 1 to 5.

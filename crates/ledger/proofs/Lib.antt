@@ -1,3 +1,4 @@
+pub mod Balance
 pub mod Sound
 pub mod Periods
 pub mod Cuts

@@ -18,14 +18,15 @@ use Rattle.corridor.specs.Acceptance.{stateLengthsFit, stateNumbers, demandNumb
 use Rattle.refusals.proofs.Answers.{accepted-passes, accepted-both, lengths-passed}
 use Rattle.period.specs.Sharing.{asymmetric}
 use Rattle.period.specs.Period.{onFlowAt, stateAfter, periodChecks}
-use Rattle.period.specs.Account.{demanded, leftRoad}
+use Rattle.ledger.specs.Account.{demanded, leftRoad}
 use Rattle.period.proofs.Fair.{asymmetric-is-fair}
 use Rattle.period.proofs.Reading.{after-length, after-queue}
 use Rattle.period.proofs.Laws.{queue-balance}
-use Rattle.period.proofs.Again.{t, s, d, state-stays-accepted, vehicles-balance}
+use Rattle.period.proofs.Again.{t, s, d, state-stays-accepted}
 use Rattle.period.proofs.Rows.{same-length-fits}
 use Rattle.run.specs.Run.{rows, rowOf, isAccepted, stateAfterPeriods, rowAnswer, completed, runChecks}
 use Rattle.ledger.specs.Calls.{Corridor, IsAccepted, period, run, leaves, accepts, letsOut, acceptsAt, letsInAt}
+use Rattle.ledger.proofs.Balance.{vehicles-balance}
 use Rattle.ledger.proofs.Sound.{Sound, nothing, then, CallIsSound}
 
 -- what balances at each cell balances over the cells of an on-ramp number
@@ -53,7 +54,8 @@ row-is-sound table state demand fit accepted row =
       accepted =
           lengths-passed (stateNumbers table (stateAfter asymmetric table state demand)) (same-length-fits table state (stateAfter asymmetric table state demand) fit (after-length asymmetric table state demand))
           ∙ state-stays-accepted asymmetric asymmetric-is-fair table state demand accepted row;
-      vehicles = vehicles-balance asymmetric asymmetric-is-fair table state demand accepted row;
+      vehicles =
+          vehicles-balance asymmetric asymmetric-is-fair table state demand (t asymmetric asymmetric-is-fair table state demand accepted row) (s asymmetric asymmetric-is-fair table state demand accepted row) (d asymmetric asymmetric-is-fair table state demand accepted row);
       queues = λ ramp. ramp-balance table ramp (queueAt (cells table) (stateAfter asymmetric table state demand)) (onFlowAt asymmetric table state demand) (queueAt (cells table) state) (onDemandAt demand)
           λ i h. ap (λ q. q + onFlowAt asymmetric table state demand i) (after-queue asymmetric table state demand i h)
           ∙ queue-balance asymmetric asymmetric-is-fair table state demand (t asymmetric asymmetric-is-fair table state demand accepted row) (s asymmetric asymmetric-is-fair table state demand accepted row) (d asymmetric asymmetric-is-fair table state demand accepted row) i;

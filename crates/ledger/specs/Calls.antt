@@ -10,7 +10,7 @@ use Rattle.refusals.specs.Checks.{answer, whenAccepted}
 use Rattle.corridor.specs.Acceptance.{stateChecks}
 use Rattle.period.specs.Sharing.{asymmetric}
 use Rattle.period.specs.Period.{onFlowAt, stateAfter, periodChecks}
-use Rattle.period.specs.Account.{demanded, leftRoad}
+use Rattle.ledger.specs.Account.{demanded, leftRoad}
 use Rattle.run.specs.Run.{rowOf, stateAfterPeriods, periodsRun}
 use Rattle.recut.specs.Recut.{newState, recutChecks}
 

@@ -1,2 +1,3 @@
+pub mod Account
 pub mod Calls
 pub mod Demand3

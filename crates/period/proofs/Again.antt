@@ -1,34 +1,27 @@
--- The state after an accepted period is accepted again, and the vehicles balance. Assumes nothing.
+-- The state after an accepted period is accepted again. Assumes nothing.
 use Prim.Native.Nat.{ℕ, zero, suc, _+_, _≤_, _<_}
-use mathlib.Core.Path.{_≡_, refl, sym, ap, ap₂, _∙_}
+use mathlib.Core.Path.{_≡_, refl, ap₂}
 use mathlib.Core.Bool.{Bool, true, false, _&&_}
 use mathlib.Core.List.{List, [], _∷_}
 use native.Mathlib.Omega.{arith}
 use borrow.Author.Tests.{le-leb}
 use lib.Dec.{eqb}
-use Rattle.whole.specs.Sums.{sum, atPosition}
 use Rattle.whole.specs.Search.{pick}
 use Rattle.whole.proofs.Search.{Passes}
-use Rattle.whole.proofs.Sums.{sum-of-sums, sum-of-equal-terms, balance}
 use Rattle.refusals.specs.declared.Answer.the-variants.{Accepted}
 use Rattle.layout.specs.Layout.{cells, rowAt, entryQueue, countAt, queueAt, onDemandAt}
-use Rattle.corridor.specs.Vehicles.{vehicles}
 use Rattle.refusals.specs.Checks.{answer}
 use Rattle.ranges.specs.Ranges.{withRamp, queueLimit, demandLimit}
-use Rattle.corridor.specs.Acceptance.{tableNumbers, stateInRange, stateNumbers, demandNumbers}
+use Rattle.tables.specs.Tables.{tableNumbers}
+use Rattle.corridor.specs.Acceptance.{stateInRange, stateNumbers, demandNumbers}
 use Rattle.refusals.proofs.Answers.{accepted-both, both-accepted, passes-accepted}
-use Rattle.corridor.proofs.Accepted.{TableFits, StateFits, RowFits, table-fits, state-fits, row-fits}
+use Rattle.tables.proofs.Accepted.{TableFits, table-fits}
+use Rattle.corridor.proofs.Accepted.{StateFits, RowFits, state-fits, row-fits}
 use Rattle.period.specs.Sharing.{Sharing}
-use Rattle.period.specs.Period.{flowAt, offFlowAt, onFlowAt, countAfter, queueAfter, stateAfter}
-use Rattle.period.specs.Account.{demanded, leftRoad}
+use Rattle.period.specs.Period.{queueAfter, stateAfter}
 use Rattle.period.proofs.Fair.{Fair}
 use Rattle.period.proofs.Reading.{after-entry, after-count, after-queue}
-use Rattle.period.proofs.Laws.{cell-balance, entry-balance, queue-balance, count-stays-within}
-
--- what flows out of a position, as the entry's flow and the cells' flows
-at-each : (f : ℕ → ℕ) (p : ℕ) → atPosition (f 0) (λ i. f (suc i)) p ≡ f p
-at-each f zero = refl
-at-each f (suc p) = refl
+use Rattle.period.proofs.Laws.{entry-balance, queue-balance, count-stays-within}
 
 module _ (way : Sharing) (fair : Fair way) (table state demand : List ℕ) (accepted : answer (stateNumbers table state) ≡ Accepted) (row : answer (demandNumbers table state demand) ≡ Accepted) where
   table-accepted : answer (tableNumbers table) ≡ Accepted
@@ -67,27 +60,3 @@ module _ (way : Sharing) (fair : Fair way) (table state demand : List ℕ) (acce
   state-stays-accepted =
       both-accepted (tableNumbers table) (stateInRange table (stateAfter way table state demand) ∷ []) table-accepted
       (passes-accepted (stateInRange table (stateAfter way table state demand)) Accepted stays-in-range refl)
-
-  counts : sum (cells table) (countAt after) ≡ sum (cells table) (countAfter way table state demand)
-  counts = sum-of-equal-terms (cells table) _ _ (after-count way table state demand)
-
-  queues : sum (cells table) (queueAt (cells table) after) ≡ sum (cells table) (queueAfter way table state demand)
-  queues = sum-of-equal-terms (cells table) _ _ (after-queue way table state demand)
-
-  counts-balance : sum (cells table) (countAfter way table state demand) + sum (cells table) (offFlowAt way table state demand) + flowAt way table state demand (cells table) ≡ sum (cells table) (countAt state) + sum (cells table) (onFlowAt way table state demand) + flowAt way table state demand 0
-  counts-balance =
-      rw (at-each (flowAt way table state demand) (cells table)) at
-      (balance (cells table) (flowAt way table state demand 0) (countAt state) (countAfter way table state demand) (onFlowAt way table state demand) (offFlowAt way table state demand) (λ i. flowAt way table state demand (suc i))
-      λ i h. cell-balance way fair table state demand t s d i h ∙ ap (λ f. countAt state i + f + onFlowAt way table state demand i) (sym (at-each (flowAt way table state demand) i)))
-
-  queues-balance : sum (cells table) (queueAfter way table state demand) + sum (cells table) (onFlowAt way table state demand) ≡ sum (cells table) (queueAt (cells table) state) + sum (cells table) (onDemandAt demand)
-  queues-balance =
-      sym (sum-of-sums (cells table) (queueAfter way table state demand) (onFlowAt way table state demand))
-      ∙ sum-of-equal-terms (cells table) _ _ (λ i h. queue-balance way fair table state demand t s d i)
-      ∙ sum-of-sums (cells table) (queueAt (cells table) state) (onDemandAt demand)
-
-  -- vehicles after and what left the road are the vehicles before and what was demanded
-  pub vehicles-balance : vehicles table (stateAfter way table state demand) + leftRoad way table state demand ≡ vehicles table state + demanded table demand
-  vehicles-balance =
-      omega
-      (arith, after-entry way table state demand, entry-balance way fair table state demand t s d, counts, counts-balance, queues, queues-balance)

@@ -1,4 +1,3 @@
 pub mod Cell
 pub mod Sharing
 pub mod Period
-pub mod Account

@@ -19,7 +19,8 @@ use Rattle.layout.specs.Layout.{cells, rowAt, stateLength, entryQueue, countAt,
 use Rattle.corridor.specs.Vehicles.{vehicles, atOnRamp, atOffRamp, present, rampsTo, ramps}
 use Rattle.refusals.specs.Checks.{answer}
 use Rattle.ranges.specs.Ranges.{withRamp, queueLimit}
-use Rattle.corridor.specs.Acceptance.{tableNumbers, stateInRange, stateNumbers}
+use Rattle.tables.specs.Tables.{tableNumbers}
+use Rattle.corridor.specs.Acceptance.{stateInRange, stateNumbers}
 use Rattle.refusals.proofs.Answers.{both-accepted, passes-accepted}
 use Rattle.whole.proofs.Tests.{both-hold}
 use Rattle.layout.proofs.States.{laid-length, laid-entry, laid-count, laid-queue}

@@ -111,7 +111,7 @@ pub fn recut(old: &[u32], state: &[u32], pieces: &[u32], new: &[u32], list: &mut
     if !recut_lists_fit(old, state, pieces, new, list) {
         return Answer::Refused(Refusal::Length);
     }
-    let tables = corridor::accept_tables(old, new);
+    let tables = tables::accept_tables(old, new);
     if let Answer::Refused(refusal) = tables {
         return Answer::Refused(refusal);
     }

@@ -15,7 +15,7 @@ use Rattle.scans.specs.Scans.{begin}
 use Rattle.text.specs.Reads.{held, numbers}
 use Rattle.text.specs.declared.Text.{Text}
 use Rattle.text.specs.declared.Text.the-variants as Text
-use Rattle.text.proofs.Accepted.{accepted-count}
+use Rattle.read_back.proofs.Accepted.{accepted-count}
 use Rattle.layout.specs.Layout.{cells, stateLength, demandLength}
 use Rattle.files.specs.Stops.{broken}
 use Rattle.files.specs.Files.{cellsFound, stateFound, acceptedThen}

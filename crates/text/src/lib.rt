@@ -1,5 +1,5 @@
-// The text: records of whole numbers as document 01 writes them, read a byte at a time, so that a text may come in
-// pieces of any size.
+// The text: records of whole numbers as document 01 writes them. What is read is a fold over the bytes, so that a text may come in pieces of
+// any size.
 ghost use mathlib.Core.Path.{_≡_};
 ghost use lib.ListN.{length, drop};
 ghost use Rattle.scans.specs.Scans.{feed, ended};

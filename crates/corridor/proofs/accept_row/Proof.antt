@@ -2,9 +2,10 @@
 use mathlib.Core.Path.{sym, _∙_}
 use borrow.Author.Tests.{not-false}
 use borrow.Author.Needs.{needs}
+use Rattle.whole.proofs.Tests.{both-hold}
 use Rattle.corridor.proofs.Lengths.{row-lengths}
 use Rattle.refusals.proofs.Answers.{lengths-fail, lengths-fit, refused-stays, accepted-goes-on}
-use Rattle.corridor.specs.Acceptance.{stateNumbers, demandNumbers}
+use Rattle.corridor.specs.Acceptance.{stateLengthsFit, stateNumbers, demandNumbers}
 use Rattle.corridor.proofs.accept_row.Statement.{statement}
 use Rattle.corridor.proofs.accept_row.Tie as tie
 
@@ -14,7 +15,7 @@ returns c = lengths-fail _ (c .before .row-lengths-fit .ensures) (c .if1 .taken)
 state-numbers-requires : tie.Need-state-numbers-requires
 state-numbers-requires c κs =
     let lists = c .before .before .before .before .before .args in
-    row-lengths (lists .table .now) (lists .state .now) (lists .demand .now) (sym (c .before .row-lengths-fit .ensures) ∙ not-false _ (c .if1 .left)) .0
+    both-hold (stateLengthsFit (lists .table .now) (lists .state .now)) _ (sym (c .before .row-lengths-fit .ensures) ∙ not-false _ (c .if1 .left)) .0
 
 returns-2 : tie.Need-returns-2
 returns-2 c =

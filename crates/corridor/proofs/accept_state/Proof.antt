@@ -2,7 +2,6 @@
 use mathlib.Core.Path.{sym, _∙_}
 use borrow.Author.Tests.{not-false}
 use borrow.Author.Needs.{needs}
-use Rattle.corridor.proofs.Lengths.{state-length}
 use Rattle.refusals.proofs.Answers.{lengths-fail, lengths-fit}
 use Rattle.corridor.proofs.accept_state.Statement.{statement}
 use Rattle.corridor.proofs.accept_state.Tie as tie
@@ -11,10 +10,7 @@ returns : tie.Need-returns
 returns c = lengths-fail _ (c .before .state-lengths-fit .ensures) (c .if1 .taken)
 
 state-numbers-requires : tie.Need-state-numbers-requires
-state-numbers-requires c κs =
-    let lists = c .before .before .before .before .args in
-    state-length (lists .table .now) (lists .state .now)
-    (sym (c .before .state-lengths-fit .ensures) ∙ not-false _ (c .if1 .left))
+state-numbers-requires c κs = sym (c .before .state-lengths-fit .ensures) ∙ not-false _ (c .if1 .left)
 
 returns-2 : tie.Need-returns-2
 returns-2 c = lengths-fit (c .before .before .state-lengths-fit .ensures) (c .before .if1 .left) (c .state-numbers .ensures)

@@ -1,32 +1,44 @@
 -- `corridor::state_numbers` meets its contract. Assumes nothing.
 use mathlib.Core.List.{[], _∷_}
-use mathlib.Core.Path.{refl, sym, _∙_}
+use mathlib.Core.Path.{_≡_, refl, sym, _∙_}
 use borrow.Author.Needs.{needs}
-use Rattle.corridor.specs.Acceptance.{tableNumbers, stateInRange}
-use Rattle.refusals.proofs.Answers.{stops, passes, refused-stays, accepted-goes-on}
+use Rattle.refusals.specs.Checks.{answer}
+use Rattle.tables.specs.Tables.{tableNumbers}
+use Rattle.corridor.specs.Acceptance.{stateInRange}
+use Rattle.refusals.proofs.Answers.{stops, passes, refused-stays, accepted-goes-on, lengths-passed}
+use Rattle.corridor.proofs.Lengths.{table-length, state-length}
 use Rattle.corridor.proofs.state_numbers.Statement.{statement}
 use Rattle.corridor.proofs.state_numbers.Tie as tie
+
+-- the table's length fits, so that its answer is that of numbers 2 to 4
+told : (c : tie.After-accept-table) → c .accept-table .result ≡ answer (tableNumbers (c .before .before .before .args .table .now))
+told c =
+    let start = c .before .before .before in
+    let lists = start .args in
+    c .accept-table .ensures ∙ lengths-passed (tableNumbers (lists .table .now)) (table-length (lists .table .now) (lists .state .now) (start .pre))
 
 returns : tie.Need-returns
 returns c =
     let lists = c .before .before .before .before .before .before .args in
     refused-stays (tableNumbers (lists .table .now)) (stateInRange (lists .table .now) (lists .state .now) ∷ [])
-    (sym (c .before .found .given .1) ∙ c .before .before .before .table-numbers .ensures)
+    (sym (c .before .found .given .1) ∙ told (c .before .before .before))
 
 state-in-range-requires : tie.Need-state-in-range-requires
-state-in-range-requires c κs = c .before .before .before .before .before .pre
+state-in-range-requires c κs =
+    let start = c .before .before .before .before .before in
+    state-length (start .args .table .now) (start .args .state .now) (start .pre)
 
 returns-2 : tie.Need-returns-2
 returns-2 c =
     let lists = c .before .before .before .before .before .before .before .before .args in
     accepted-goes-on (tableNumbers (lists .table .now)) (stateInRange (lists .table .now) (lists .state .now) ∷ [])
-    (sym (c .before .before .before .enum-told .given .1) ∙ c .before .before .before .before .before .table-numbers .ensures) (stops _ _ (c .before .before .state-in-range .ensures) (search needs))
+    (sym (c .before .before .before .enum-told .given .1) ∙ told (c .before .before .before .before .before)) (stops _ _ (c .before .before .state-in-range .ensures) (search needs))
 
 returns-3 : tie.Need-returns-3
 returns-3 c =
     let lists = c .before .before .before .before .before .before .before .before .args in
     accepted-goes-on (tableNumbers (lists .table .now)) (stateInRange (lists .table .now) (lists .state .now) ∷ [])
-    (sym (c .before .before .before .enum-told .given .1) ∙ c .before .before .before .before .before .table-numbers .ensures) (passes _ (c .before .before .state-in-range .ensures) (search needs) refl)
+    (sym (c .before .before .before .enum-told .given .1) ∙ told (c .before .before .before .before .before)) (passes _ (c .before .before .state-in-range .ensures) (search needs) refl)
 
 pub state-numbers-spec : {M : Type 1} → statement M
 state-numbers-spec =

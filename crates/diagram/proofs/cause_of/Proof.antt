@@ -3,7 +3,7 @@ use mathlib.Core.Path.{_≡_}
 use mathlib.Core.Bool.{false}
 use borrow.Author.Needs.{needs}
 use Rattle.diagram.specs.Samples.{occupancyInRange, sampleOf}
-use Rattle.diagram.proofs.Tests.{fails, holds}
+use Rattle.row_maker.proofs.Answers.{fails, holds}
 use Rattle.diagram.proofs.cause_of.Statement.{statement}
 use Rattle.diagram.proofs.cause_of.Tie as tie
 

@@ -5,7 +5,7 @@ use borrow.Author.Needs.{needs}
 use Rattle.refusals.proofs.Answers.{stops, passes, lengths-fail}
 use Rattle.refusals.proofs.Answers as answers
 use Rattle.diagram.proofs.Answers.{lengths-fit}
-use Rattle.diagram.proofs.Tests.{holds}
+use Rattle.row_maker.proofs.Answers.{holds}
 use Rattle.diagram.specs.Calibration.{fittedDiagram, fitAs}
 use Rattle.diagram.proofs.fit.Statement.{statement}
 use Rattle.diagram.proofs.fit.Tie as tie

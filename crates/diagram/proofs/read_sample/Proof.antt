@@ -5,7 +5,8 @@ use borrow.Author.Needs.{needs}
 use Rattle.whole.proofs.Tests.{both-hold}
 use Rattle.diagram.specs.declared.Sample.the-variants.{Good}
 use Rattle.diagram.specs.Samples.{sampleOf, density}
-use Rattle.diagram.proofs.Tests.{fails, holds, flow-is-finite, occupancy-is-finite}
+use Rattle.row_maker.proofs.Answers.{fails, holds}
+use Rattle.diagram.proofs.Tests.{flow-is-finite, occupancy-is-finite}
 use Rattle.diagram.proofs.read_sample.Statement.{statement}
 use Rattle.diagram.proofs.read_sample.Tie as tie
 

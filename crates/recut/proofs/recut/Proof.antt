@@ -5,7 +5,8 @@ use borrow.Author.Tests.{not-true, not-false}
 use borrow.Author.Needs.{needs}
 use Rattle.refusals.specs.declared.Answer.the-variants.{Accepted}
 use Rattle.refusals.specs.Checks.{answer}
-use Rattle.corridor.specs.Acceptance.{bothTablesChecks, stateAloneChecks}
+use Rattle.tables.specs.Tables.{bothTablesChecks}
+use Rattle.corridor.specs.Acceptance.{stateAloneChecks}
 use Rattle.recut.specs.Recut.{recutListsFit, piecesNumbers}
 use Rattle.recut.proofs.Done.{lists-refused, tables-refused, state-refused, pieces-refused, pieces-ask, counts-length, list-length, cut-done}
 use Rattle.recut.proofs.recut.Statement.{statement}

@@ -1,0 +1,3 @@
+pub mod ReadBack
+pub mod Accepted
+pub mod Records

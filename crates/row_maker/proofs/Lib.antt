@@ -1,0 +1,3 @@
+pub mod Rounding
+pub mod Answers
+pub mod Settled

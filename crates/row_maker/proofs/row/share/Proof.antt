@@ -1,0 +1,13 @@
+-- `row_maker::row::share` meets its contract. Assumes nothing.
+use mathlib.Core.Path.{refl}
+use borrow.Author.Needs.{needs}
+use lib.Ieee.{ofBits, ofInt}
+use Rattle.row_maker.proofs.row.share.Statement.{statement}
+use Rattle.row_maker.proofs.row.share.Tie as tie
+
+returns : tie.Need-returns
+unfolding ofBits ofInt
+returns c = refl
+
+pub share-spec : {M : Type 1} → statement M
+share-spec = tie.close (tie.spec (λ c. search needs) returns)

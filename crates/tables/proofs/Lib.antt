@@ -1,0 +1,4 @@
+pub mod Marks
+pub mod Ramps
+pub mod Accepted
+pub mod Settled
