@@ -2,10 +2,11 @@
 // at once; numbers 2 to 4 are the table's own.
 ghost use mathlib.Core.Path.{_≡_};
 ghost use mathlib.Core.Bool.{true};
+ghost use mathlib.Core.List.{[], _∷_};
 ghost use lib.ListN.{length};
 ghost use Rattle.layout.specs.Layout.{cells, stateLength, demandLength};
 ghost use Rattle.refusals.specs.Checks.{answer};
-ghost use Rattle.corridor.specs.Acceptance.{stateLengthsFit, rowLengthsFit, stateNumbers, demandNumbers, stateChecks, rowChecks, demandChecks, stateAloneChecks};
+ghost use Rattle.corridor.specs.Acceptance.{stateLengthsFit, rowLengthsFit, stateInRange, stateNumbers, demandNumbers, stateChecks, rowChecks, demandChecks, stateAloneChecks};
 
 mod checks;
 
@@ -29,6 +30,18 @@ fn row_lengths_fit(table: &[u32], state: &[u32], demand: &[u32]) -> bool
     state_lengths_fit(table, state) & (demand.len() == 2 * cells(table) + 1)
 }
 
+// Number 5.
+fn state_number(table: &[u32], state: &[u32]) -> Answer
+    requires { ⌜ length (now state) ≡ stateLength (cells (now table)) ⌝ }
+    ensures { λ r. ⌜ r ≡ answer (stateInRange (now (table .entry)) (now (state .entry)) ∷ []) ⌝ }
+{
+    let at = checks::state_in_range(table, state);
+    if at <= cells(table) {
+        return Answer::Refused(Refusal::StateNumber(at));
+    }
+    Answer::Accepted
+}
+
 // Numbers 2 to 5, where the lengths fit: so a table's own answer is never its number 1.
 fn state_numbers(table: &[u32], state: &[u32]) -> Answer
     requires { ⌜ stateLengthsFit (now table) (now state) ≡ true ⌝ }
@@ -38,11 +51,7 @@ fn state_numbers(table: &[u32], state: &[u32]) -> Answer
     if let Answer::Refused(refusal) = found {
         return Answer::Refused(refusal);
     }
-    let at = checks::state_in_range(table, state);
-    if at <= cells(table) {
-        return Answer::Refused(Refusal::StateNumber(at));
-    }
-    Answer::Accepted
+    state_number(table, state)
 }
 
 // Numbers 6 and 7. Where 6 passes at every place, the least that fails either is the least that fails 7.
@@ -104,9 +113,5 @@ pub fn accept_state_alone(table: &[u32], state: &[u32]) -> Answer
     if !state_lengths_fit(table, state) {
         return Answer::Refused(Refusal::Length);
     }
-    let at = checks::state_in_range(table, state);
-    if at <= cells(table) {
-        return Answer::Refused(Refusal::StateNumber(at));
-    }
-    Answer::Accepted
+    state_number(table, state)
 }

@@ -7,8 +7,9 @@ ghost use mathlib.Core.List.{[], _∷_};
 ghost use lib.Ieee.{Float};
 ghost use lib.ListN.{length};
 ghost use Rattle.refusals.specs.Checks.{answer};
-ghost use Rattle.diagram.specs.declared.Sample.the-variants.{Unusable};
-ghost use Rattle.diagram.specs.Samples.{flowInRange, occupancyInRange, sampleOf, sampleAt, samples};
+ghost use Rattle.row_maker.specs.Doubles.{unsigned};
+ghost use Rattle.diagram.specs.declared.Sample.the-variants.{Good, Unusable};
+ghost use Rattle.diagram.specs.Samples.{flowInRange, occupancyInRange, density, sampleOf, sampleAt, AllUsable, samples};
 ghost use Rattle.diagram.specs.Diagrams.{largestFlow};
 ghost use Rattle.diagram.specs.Calibration.{diagramFits, fittedDiagram, fitAs, fitOf, calibrationOf};
 
@@ -91,6 +92,14 @@ fn cause_of(flow: f64, occupancy: f64) -> Cause
     Cause::OccupancyOutOfRange
 }
 
+// A sample as a flow with a density.
+fn good_sample(g: f64, lanes: u32, flow: f64, occupancy: f64) -> Sample
+    ensures { λ r. ⌜ r ≡ Good (unsigned flow) (density g lanes (unsigned occupancy)) ⌝ }
+{
+    let density = (doubles::unsigned(occupancy) / g) * (lanes as f64);
+    Sample::Good(doubles::unsigned(flow), density)
+}
+
 // Reads one sample. A double in range is finite, so that finiteness is asked only for the cause.
 pub fn read_sample(g: f64, lanes: u32, flow: f64, occupancy: f64) -> Sample
     ensures { λ r. ⌜ r ≡ sampleOf g lanes flow occupancy ⌝ }
@@ -98,8 +107,7 @@ pub fn read_sample(g: f64, lanes: u32, flow: f64, occupancy: f64) -> Sample
     if !(flow_in_range(flow) & occupancy_in_range(occupancy)) {
         return Sample::Unusable(cause_of(flow, occupancy));
     }
-    let density = (doubles::unsigned(occupancy) / g) * (lanes as f64);
-    Sample::Good(doubles::unsigned(flow), density)
+    good_sample(g, lanes, flow, occupancy)
 }
 
 // Reads the sample at a position of the two lists.
@@ -111,11 +119,22 @@ fn sample_at(flow: &[f64], occupancy: &[f64], settings: Settings, i: usize) -> S
     read_sample(settings.g, settings.lanes, flow[i], occupancy[i])
 }
 
+// The same where every sample is known to be usable: nothing is tested again.
+fn good_sample_at(flow: &[f64], occupancy: &[f64], settings: Settings, i: usize) -> Sample
+    requires { ⌜ i < length (now flow) ⌝ }
+    requires { ⌜ length (now flow) ≡ length (now occupancy) ⌝ }
+    requires { ⌜ AllUsable settings (now flow) (now occupancy) ⌝ }
+    ensures { λ r. ⌜ r ≡ sampleAt settings (now (flow .entry)) (now (occupancy .entry)) i ⌝ }
+{
+    good_sample(settings.g, settings.lanes, flow[i], occupancy[i])
+}
+
 // Number 10, and the diagram where it does not apply. A free stretch that is empty, and no sample above critical, leave
 // their sum of squares at zero, so no test of their own is made of these two.
 fn fit_samples(flow: &[f64], occupancy: &[f64], settings: Settings, capacity: f64) -> FitAnswer
     requires { ⌜ length (now flow) ≡ length (now occupancy) ⌝ }
     requires { ⌜ settings .end ≤ length (now flow) ⌝ }
+    requires { ⌜ AllUsable settings (now flow) (now occupancy) ⌝ }
     requires { ⌜ capacity ≡ largestFlow (samples settings (now flow) (now occupancy)) ⌝ }
     ensures { λ r. ⌜ r ≡ fitAs (answer (diagramFits settings (now (flow .entry)) (now (occupancy .entry)) ∷ [])) (fittedDiagram settings (now (flow .entry)) (now (occupancy .entry))) ⌝ }
 {

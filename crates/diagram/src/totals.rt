@@ -4,13 +4,13 @@ ghost use mathlib.Core.Path.{_≡_};
 ghost use Prim.Native.Nat.{_≤_};
 ghost use lib.Ieee.{lt};
 ghost use lib.ListN.{length};
-ghost use Rattle.diagram.specs.Samples.{samples};
+ghost use Rattle.diagram.specs.Samples.{AllUsable, samples};
 ghost use Rattle.diagram.specs.Diagrams.{adds, flowByDensity, densitySquared, speedSums, larger, isAbove, addsAbove, gapByExcess, excessSquared, waveSums, freeOf};
 use crate::Sample;
 use crate::Settings;
 use crate::Sums;
 use crate::doubles::pick;
-use crate::sample_at;
+use crate::good_sample_at;
 
 fn plus_flow_by_density(total: f64, sample: Sample) -> f64
     ensures { λ r. ⌜ r ≡ adds flowByDensity total sample ⌝ }
@@ -34,6 +34,7 @@ fn plus_density_squared(total: f64, sample: Sample) -> f64
 pub(crate) fn speed_sums(flow: &[f64], occupancy: &[f64], settings: Settings) -> Sums
     requires { ⌜ length (now flow) ≡ length (now occupancy) ⌝ }
     requires { ⌜ settings .end ≤ length (now flow) ⌝ }
+    requires { ⌜ AllUsable settings (now flow) (now occupancy) ⌝ }
     ensures { λ r. ⌜ r ≡ speedSums (freeOf settings (now (flow .entry)) (now (occupancy .entry))) ⌝ }
 {
     let end = settings.end;
@@ -41,7 +42,7 @@ pub(crate) fn speed_sums(flow: &[f64], occupancy: &[f64], settings: Settings) ->
     let mut bottom = 0.0;
     let mut i = settings.start;
     while i < end {
-        let sample = sample_at(flow, occupancy, settings, i);
+        let sample = good_sample_at(flow, occupancy, settings, i);
         top = plus_flow_by_density(top, sample);
         bottom = plus_density_squared(bottom, sample);
         i += 1;
@@ -116,6 +117,7 @@ pub(crate) fn wave_sums(
     critical: f64,
 ) -> Sums
     requires { ⌜ length (now flow) ≡ length (now occupancy) ⌝ }
+    requires { ⌜ AllUsable settings (now flow) (now occupancy) ⌝ }
     ensures { λ r. ⌜ r ≡ waveSums capacity critical (samples settings (now (flow .entry)) (now (occupancy .entry))) ⌝ }
 {
     let n = flow.len();
@@ -125,7 +127,7 @@ pub(crate) fn wave_sums(
     };
     let mut i = 0;
     while i < n {
-        let sample = sample_at(flow, occupancy, settings, i);
+        let sample = good_sample_at(flow, occupancy, settings, i);
         sums = plus_above(sums, capacity, critical, sample);
         i += 1;
     }

@@ -13,7 +13,7 @@ use std::process::ExitCode;
 
 const USAGE: &str = "usage: bench [--rounds R] [--peer PATH] [--program PATH] [--megabytes M] [--library | --programs]
        bench --repeat JOB SIDE CALLS
-  --rounds R       rounds of which the best counts (75)
+  --rounds R       rounds of which the best counts (75, and 25 for the programs)
   --peer PATH      the Rust `simulate` (the one beside this program)
   --program PATH   the proved `simulate`
   --megabytes M    size of the large demand file (100)
@@ -23,7 +23,7 @@ const USAGE: &str = "usage: bench [--rounds R] [--peer PATH] [--program PATH] [-
                    or periods,CELLS,PERIODS, with `example` or a number for CELLS, or recut, or calibration";
 
 pub struct Options {
-    rounds: usize,
+    rounds: Option<usize>,
     peer: PathBuf,
     program: Option<PathBuf>,
     megabytes: usize,
@@ -34,7 +34,7 @@ pub struct Options {
 fn options() -> Result<Options, String> {
     let here = std::env::current_exe().map_err(|error| error.to_string())?;
     let mut options = Options {
-        rounds: 75,
+        rounds: None,
         peer: here.with_file_name("simulate"),
         program: None,
         megabytes: 100,
@@ -46,7 +46,7 @@ fn options() -> Result<Options, String> {
         let mut value = || arguments.next().ok_or(format!("{flag} needs a value\n{USAGE}"));
         let number = |text: String| text.parse::<usize>().map_err(|error| format!("{text}: {error}"));
         match flag.as_str() {
-            "--rounds" => options.rounds = number(value()?)?.max(1),
+            "--rounds" => options.rounds = Some(number(value()?)?.max(1)),
             "--peer" => options.peer = value()?.into(),
             "--program" => options.program = Some(value()?.into()),
             "--megabytes" => options.megabytes = number(value()?)?,
@@ -78,10 +78,10 @@ fn main() -> ExitCode {
 fn timed() -> Result<(), String> {
     options().and_then(|options| {
         if options.library {
-            sides::measure(options.rounds);
+            sides::measure(options.rounds.unwrap_or(75));
         }
         if options.programs {
-            programs::measure(&options).map_err(|error| error.to_string())?;
+            programs::measure(&options, options.rounds.unwrap_or(25)).map_err(|error| error.to_string())?;
         }
         Ok(())
     })

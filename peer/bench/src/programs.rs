@@ -6,7 +6,7 @@ use std::path::{Path, PathBuf};
 use std::process::{Command, Stdio};
 use std::time::{Duration, Instant};
 
-use crate::timing::{print_table, ratio, time};
+use crate::timing::{middle_ratio, print_table, ratio, time};
 use crate::Options;
 
 /// The texts of the example corridor.
@@ -47,57 +47,70 @@ impl Drop for Folder {
     }
 }
 
-pub fn measure(options: &Options) -> io::Result<()> {
+/// A program by its name in the tables.
+type Program = (&'static str, PathBuf);
+
+pub fn measure(options: &Options, rounds: usize) -> io::Result<()> {
     let mut programs = vec![("Rust", fs::canonicalize(&options.peer)?)];
     if let Some(program) = &options.program {
         programs.push(("proved", fs::canonicalize(program)?));
     }
     let small = Folder::new("small", 0)?;
     let large = Folder::new("large", options.megabytes * 1_000_000)?;
-
-    let mut memory = Vec::new();
-    for (name, program) in &programs {
-        let (small_peak, small_sum) = peak(program, &small.0)?;
-        let (large_peak, large_sum) = peak(program, &large.0)?;
-        memory.push((vec![name.to_string(), kilobytes(small_peak), kilobytes(large_peak)], small_sum, large_sum));
-    }
-    let sums = |at: usize| (memory[at].1, memory[at].2);
-    for at in 1..memory.len() {
-        if sums(at) != sums(0) {
-            return Err(io::Error::other("the programs write different sheets"));
-        }
-    }
-
-    let mut times: Vec<Option<Duration>> = vec![None; programs.len()];
-    for _ in 0..options.rounds.min(5) {
-        for ((_, program), best) in programs.iter().zip(&mut times) {
-            let begun = Instant::now();
-            let status =
-                Command::new(program).current_dir(&large.0).stdin(Stdio::null()).stdout(Stdio::null()).status()?;
-            let time = begun.elapsed();
-            if !status.success() {
-                return Err(io::Error::other(format!("{}: {status}", program.display())));
-            }
-            *best = Some(best.map_or(time, |best| best.min(time)));
-        }
-    }
+    let memory = peaks(&programs, &small, &large)?;
+    let times = turns(&programs, &large, rounds)?;
 
     let bytes = large.demand_bytes()?;
     let rows: Vec<Vec<String>> = programs
         .iter()
         .zip(&times)
-        .map(|((name, _), &best)| {
+        .map(|((name, _), own)| {
+            let best = own.iter().min().copied();
             let rate = best.map_or(0.0, |best| bytes as f64 / 1e6 / best.as_secs_f64());
-            vec![name.to_string(), time(best), format!("{rate:.0} MB/s"), ratio(best, times[0])]
+            let over = ratio(best, times[0].iter().min().copied());
+            vec![name.to_string(), time(best), format!("{rate:.0} MB/s"), over, middle_ratio(own, &times[0])]
         })
         .collect();
-    let title = format!("`simulate`, 41 cells, a demand file of {} MB, the sheet thrown away", bytes / 1_000_000);
-    print_table(&title, &["program", "time", "demand read", "over Rust"], &rows);
+    let megabytes = bytes / 1_000_000;
+    let title =
+        format!("`simulate`, 41 cells, a demand file of {megabytes} MB, the sheet thrown away, {rounds} rounds");
+    print_table(&title, &["program", "best", "demand read", "over Rust", "over Rust, middle round"], &rows);
 
-    let heads = ["program", &format!("{} KB", small.demand_bytes()? / 1_000), &format!("{} MB", bytes / 1_000_000)];
-    let rows: Vec<Vec<String>> = memory.into_iter().map(|(row, ..)| row).collect();
-    print_table("Peak resident memory of `simulate` by the size of the demand file", &heads, &rows);
+    let heads = ["program", &format!("{} KB", small.demand_bytes()? / 1_000), &format!("{megabytes} MB")];
+    print_table("Peak resident memory of `simulate` by the size of the demand file", &heads, &memory);
     Ok(())
+}
+
+/// The times of each program's rounds: in each round every program runs once, in turn.
+fn turns(programs: &[Program], folder: &Folder, rounds: usize) -> io::Result<Vec<Vec<Duration>>> {
+    let mut times = vec![Vec::new(); programs.len()];
+    for _ in 0..rounds {
+        for ((_, program), own) in programs.iter().zip(&mut times) {
+            let begun = Instant::now();
+            let status =
+                Command::new(program).current_dir(&folder.0).stdin(Stdio::null()).stdout(Stdio::null()).status()?;
+            own.push(begun.elapsed());
+            if !status.success() {
+                return Err(io::Error::other(format!("{}: {status}", program.display())));
+            }
+        }
+    }
+    Ok(times)
+}
+
+/// The rows of the table of memory. The programs are seen to write the same sheets.
+fn peaks(programs: &[Program], small: &Folder, large: &Folder) -> io::Result<Vec<Vec<String>>> {
+    let mut rows = Vec::new();
+    let mut first = None;
+    for (name, program) in programs {
+        let (small_peak, small_sum) = peak(program, &small.0)?;
+        let (large_peak, large_sum) = peak(program, &large.0)?;
+        rows.push(vec![name.to_string(), kilobytes(small_peak), kilobytes(large_peak)]);
+        if *first.get_or_insert((small_sum, large_sum)) != (small_sum, large_sum) {
+            return Err(io::Error::other("the programs write different sheets"));
+        }
+    }
+    Ok(rows)
 }
 
 fn kilobytes(peak: u64) -> String {

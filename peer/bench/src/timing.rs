@@ -59,6 +59,14 @@ pub fn ratio(time: Option<Duration>, over: Option<Duration>) -> String {
     }
 }
 
+/// The ratio that half of the rounds stay below, each side's time over the other's in the same round.
+pub fn middle_ratio(times: &[Duration], over: &[Duration]) -> String {
+    let mut ratios: Vec<f64> =
+        times.iter().zip(over).map(|(time, over)| time.as_secs_f64() / over.as_secs_f64()).collect();
+    ratios.sort_by(f64::total_cmp);
+    ratios.get(ratios.len() / 2).map_or("-".into(), |middle| format!("{middle:.2}"))
+}
+
 /// A table in Markdown.
 pub fn print_table(title: &str, heads: &[&str], rows: &[Vec<String>]) {
     let width = |column: usize| {

@@ -1,11 +1,11 @@
 -- `corridor::state_numbers` meets its contract. Assumes nothing.
 use mathlib.Core.List.{[], _∷_}
-use mathlib.Core.Path.{_≡_, refl, sym, _∙_}
+use mathlib.Core.Path.{_≡_, sym, _∙_}
 use borrow.Author.Needs.{needs}
 use Rattle.refusals.specs.Checks.{answer}
 use Rattle.tables.specs.Tables.{tableNumbers}
 use Rattle.corridor.specs.Acceptance.{stateInRange}
-use Rattle.refusals.proofs.Answers.{stops, passes, refused-stays, accepted-goes-on, lengths-passed}
+use Rattle.refusals.proofs.Answers.{refused-stays, accepted-goes-on, lengths-passed}
 use Rattle.corridor.proofs.Lengths.{table-length, state-length}
 use Rattle.corridor.proofs.state_numbers.Statement.{statement}
 use Rattle.corridor.proofs.state_numbers.Tie as tie
@@ -23,22 +23,16 @@ returns c =
     refused-stays (tableNumbers (lists .table .now)) (stateInRange (lists .table .now) (lists .state .now) ∷ [])
     (sym (c .before .found .given .1) ∙ told (c .before .before .before))
 
-state-in-range-requires : tie.Need-state-in-range-requires
-state-in-range-requires c κs =
+state-number-requires : tie.Need-state-number-requires
+state-number-requires c κs =
     let start = c .before .before .before .before .before in
     state-length (start .args .table .now) (start .args .state .now) (start .pre)
 
 returns-2 : tie.Need-returns-2
 returns-2 c =
-    let lists = c .before .before .before .before .before .before .before .before .args in
+    let lists = c .before .before .before .before .before .before .args in
     accepted-goes-on (tableNumbers (lists .table .now)) (stateInRange (lists .table .now) (lists .state .now) ∷ [])
-    (sym (c .before .before .before .enum-told .given .1) ∙ told (c .before .before .before .before .before)) (stops _ _ (c .before .before .state-in-range .ensures) (search needs))
-
-returns-3 : tie.Need-returns-3
-returns-3 c =
-    let lists = c .before .before .before .before .before .before .before .before .args in
-    accepted-goes-on (tableNumbers (lists .table .now)) (stateInRange (lists .table .now) (lists .state .now) ∷ [])
-    (sym (c .before .before .before .enum-told .given .1) ∙ told (c .before .before .before .before .before)) (passes _ (c .before .before .state-in-range .ensures) (search needs) refl)
+    (sym (c .before .enum-told .given .1) ∙ told (c .before .before .before)) (c .state-number .ensures)
 
 pub state-numbers-spec : {M : Type 1} → statement M
 state-numbers-spec =
@@ -48,7 +42,5 @@ state-numbers-spec =
     (λ c. search needs)
     returns
     (λ c. search needs)
-    state-in-range-requires
-    (λ c κs. search needs)
-    returns-2
-    returns-3)
+    state-number-requires
+    returns-2)

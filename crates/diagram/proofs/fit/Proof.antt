@@ -1,12 +1,14 @@
 -- `diagram::fit` meets its contract. Assumes nothing.
+use Prim.Native.Nat.{suc}
 use mathlib.Core.Path.{refl, ap, _∙_}
 use native.Mathlib.Omega.{arith}
 use borrow.Author.Needs.{needs}
+use Rattle.whole.proofs.Search.{all-pass}
 use Rattle.refusals.proofs.Answers.{stops, passes, lengths-fail}
 use Rattle.refusals.proofs.Answers as answers
 use Rattle.diagram.proofs.Answers.{lengths-fit}
 use Rattle.row_maker.proofs.Answers.{holds}
-use Rattle.diagram.specs.Calibration.{fittedDiagram, fitAs}
+use Rattle.diagram.specs.Calibration.{samplesUsable, fittedDiagram, fitAs}
 use Rattle.diagram.proofs.fit.Statement.{statement}
 use Rattle.diagram.proofs.fit.Tie as tie
 
@@ -29,7 +31,9 @@ fit-samples-requires : tie.Need-fit-samples-requires
 fit-samples-requires c κs = let seen = c .before .before in
     let lists = seen .before .before .before .before .before .args in
     let fit = lengths-fit (lists .settings) (lists .flow .now) (lists .occupancy .now) (holds (seen .before .before .lengths-fit .ensures) (seen .before .if1 .left)) in
-    (fit .equal, (fit .within, seen .samples-usable .ensures .1 (search needs)))
+    let check = samplesUsable (lists .settings) (lists .flow .now) (lists .occupancy .now) in
+    let all = all-pass (check .places) (check .test) (seen .samples-usable .ensures .0) (search needs) in
+    (fit .equal, (fit .within, (λ i h. all (suc i) (omega arith), seen .samples-usable .ensures .1 (search needs))))
 
 returns-3 : tie.Need-returns-3
 returns-3 c = let seen = c .before .before .before in

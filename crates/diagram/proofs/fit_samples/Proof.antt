@@ -9,13 +9,13 @@ returns : tie.Need-returns
 unfolding ofBits ofInt
 returns c = let waves = c .before .before .before .before in
     let speeds = waves .before .before in
-    no-diagram _ _ _ _ _ (speeds .speed-sums .ensures) (speeds .before .before .before .pre .1 .1) (waves .wave-sums .ensures) (c .if1 .taken)
+    no-diagram _ _ _ _ _ (speeds .speed-sums .ensures) (speeds .before .before .before .pre .1 .1 .1) (waves .wave-sums .ensures) (c .if1 .taken)
 
 returns-2 : tie.Need-returns-2
 unfolding ofBits ofInt
 returns-2 c = let waves = c .before .before .before .before in
     let speeds = waves .before .before in
-    the-diagram _ _ _ _ _ (speeds .speed-sums .ensures) (speeds .before .before .before .pre .1 .1) (waves .wave-sums .ensures) (c .if1 .left)
+    the-diagram _ _ _ _ _ (speeds .speed-sums .ensures) (speeds .before .before .before .pre .1 .1 .1) (waves .wave-sums .ensures) (c .if1 .left)
 
 pub fit-samples-spec : {M : Type 1} → statement M
 fit-samples-spec =

@@ -3,8 +3,7 @@ use mathlib.Core.Path.{sym, ap₂}
 use mathlib.Core.Bool.{_&&_}
 use borrow.Author.Needs.{needs}
 use Rattle.whole.proofs.Tests.{both-hold}
-use Rattle.diagram.specs.declared.Sample.the-variants.{Good}
-use Rattle.diagram.specs.Samples.{sampleOf, density}
+use Rattle.diagram.specs.Samples.{sampleOf}
 use Rattle.row_maker.proofs.Answers.{fails, holds}
 use Rattle.diagram.proofs.Tests.{flow-is-finite, occupancy-is-finite}
 use Rattle.diagram.proofs.read_sample.Statement.{statement}
@@ -18,10 +17,9 @@ returns c = sym (c .cause-of .ensures _ _)
 
 returns-2 : tie.Need-returns-2
 unfolding sampleOf
-returns-2 c = let given = c .before .before .before .before .before .before .args in
-    let in-range = both-hold _ _ (holds (ap₂ (λ flow occupancy. flow && occupancy) (c .before .before .before .before .before .flow-in-range .ensures) (c .before .before .before .before .occupancy-in-range .ensures)) (c .before .before .before .if1 .left)) in
-    rw (flow-is-finite (given .flow) (in-range .0), in-range .0, occupancy-is-finite (given .occupancy) (in-range .1), in-range .1)
-    (ap₂ (λ flow occupancy. Good flow (density (given .g) (given .lanes) occupancy)) (c .unsigned2 .ensures) (c .before .before .unsigned .ensures))
+returns-2 c = let given = c .before .before .before .before .args in
+    let in-range = both-hold _ _ (holds (ap₂ (λ flow occupancy. flow && occupancy) (c .before .before .before .flow-in-range .ensures) (c .before .before .occupancy-in-range .ensures)) (c .before .if1 .left)) in
+    rw (flow-is-finite (given .flow) (in-range .0), in-range .0, occupancy-is-finite (given .occupancy) (in-range .1), in-range .1) (c .good-sample .ensures)
 
 pub read-sample-spec : {M : Type 1} → statement M
 read-sample-spec =
@@ -31,7 +29,5 @@ read-sample-spec =
     (λ c κs. search needs)
     cause-of-requires
     returns
-    (λ c κs. search needs)
-    (λ c. search needs)
     (λ c κs. search needs)
     returns-2)
