@@ -1,11 +1,11 @@
 // Calibrates 16,384 sets of drawn samples and prints a digest of the answers' bits after each 2,048 sets. The stored output
 // is what the independent implementation in peer/calibration.rs prints, so that a run compares the two bit for bit. Among
 // the samples are subnormal, huge, equal and boundary values, infinities and NaNs.
-use diagram::Calibration;
-use diagram::Settings;
+use calibrate_fit::Calibration;
+use calibrate_fit::Settings;
 use refusals::Refusal;
-use row_maker::Diagram;
-use row_maker::RowNumbers;
+use calibrate_rows::Diagram;
+use calibrate_rows::RowNumbers;
 
 // What is carried from set to set: the next draw, and the digest so far.
 struct Trials {
@@ -123,10 +123,10 @@ fn with_calibration(digest: u64, calibration: Calibration) -> u64 {
 }
 
 // The fit's own answer goes into the digest too, since number 11 would hide its diagram.
-fn with_fit(digest: u64, answer: diagram::FitAnswer) -> u64 {
+fn with_fit(digest: u64, answer: calibrate_fit::FitAnswer) -> u64 {
     match answer {
-        diagram::FitAnswer::Fitted(diagram) => with_diagram(digest, diagram),
-        diagram::FitAnswer::NotFitted(refusal) => with_refusal(digest, refusal),
+        calibrate_fit::FitAnswer::Fitted(diagram) => with_diagram(digest, diagram),
+        calibrate_fit::FitAnswer::NotFitted(refusal) => with_refusal(digest, refusal),
     }
 }
 
@@ -168,8 +168,8 @@ fn with_answers(
     if occupancy.len() < m {
         return digest;
     }
-    let fitted = diagram::fit(&flow[..n], &occupancy[..m], chosen);
-    let calibrated = diagram::calibrate(&flow[..n], &occupancy[..m], chosen);
+    let fitted = calibrate_fit::fit(&flow[..n], &occupancy[..m], chosen);
+    let calibrated = calibrate_fit::calibrate(&flow[..n], &occupancy[..m], chosen);
     with_calibration(with_fit(digest, fitted), calibrated)
 }
 

@@ -2,7 +2,7 @@
 use mathlib.Core.Path.{_≡_, refl}
 use mathlib.Core.Bool.{true}
 use Rattle.refusals.specs.Checks.{orLater}
-use Rattle.ranges.specs.Ranges.{rowInRange}
+use Rattle.accept_ranges.specs.Ranges.{rowInRange}
 use Rattle.period.specs.Cell.{M, leaving, offFlow}
 use Rattle.period.specs.Period.{flowAt, offFlowAt, onFlowAt, countAfter, entryQueueAfter, queueAfter, freeAt, sheetOf, stateAfter}
 use Rattle.recut.specs.Pieces.{jamBefore, piecesFit, pieceAt}

@@ -3,13 +3,13 @@ use Prim.Native.Nat.{ℕ}
 use mathlib.Core.Bool.{Bool, true, false, _&&_}
 use mathlib.Core.List.{List, [], _∷_, _++_}
 use lib.Dec.{eqb}
-use Rattle.corridor.specs.Vehicles.{vehicles}
+use Rattle.accept_rows.specs.Vehicles.{vehicles}
 use Rattle.refusals.specs.Checks.{answer}
-use Rattle.corridor.specs.Acceptance.{rowChecks}
+use Rattle.accept_rows.specs.Acceptance.{rowChecks}
 use Rattle.period.specs.Sharing.{asymmetric}
 use Rattle.period.specs.Period.{sheetOf, stateAfter}
 use Rattle.ledger.specs.Account.{demanded, leftRoad}
-use Rattle.run.specs.Run.{isAccepted}
+use Rattle.period_run.specs.Run.{isAccepted}
 use Rattle.recut.specs.Recut.{newState, recutChecks}
 
 pub data Figure : Type 0 where

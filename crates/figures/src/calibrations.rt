@@ -1,9 +1,9 @@
 // Document 01's worked calibration, and after it a calibration that is refused with each of its numbers.
-use diagram::Calibration;
-use diagram::Settings;
+use calibrate_fit::Calibration;
+use calibrate_fit::Settings;
 use refusals::Answer;
-use row_maker::Diagram;
-use row_maker::RowNumbers;
+use calibrate_rows::Diagram;
+use calibrate_rows::RowNumbers;
 
 // Prints the whole part of a double from 0 to 2^64, which is all of it for those below; else a question mark.
 fn print_whole(x: f64) {
@@ -53,7 +53,7 @@ fn one_calibration(name: &[u8], flow: &[f64], cell: f64, end: usize) {
         end,
     };
     io::write_all(1, name);
-    let calibration = diagram::calibrate(flow, &[0.0625, 0.125, 0.375], settings);
+    let calibration = calibrate_fit::calibrate(flow, &[0.0625, 0.125, 0.375], settings);
     match calibration {
         Calibration::Calibrated(diagram, numbers) => {
             print_diagram(diagram);

@@ -63,7 +63,7 @@ fn one_cell(v: u32, w: u32, x: u32) {
     io::print_decimal(1, (w as u64) + (x as u64));
     io::write_all(1, b": ");
     let table = [v, w, 2_000, 10_000, 7, x, 500, 0, 0];
-    show::answer(tables::accept_table(&table));
+    show::answer(accept_tables::accept_table(&table));
 }
 
 // Runs one period and prints its sheet (entry flow, f, s, r, modes) and the state after it (Q, n, q).

@@ -17,19 +17,19 @@ use Rattle.refusals.specs.declared.Answer.the-variants.{Accepted, Refused}
 use Rattle.refusals.specs.Refusals.{numberOf, placeOf}
 use Rattle.refusals.specs.Checks.{answer}
 use Rattle.whole.proofs.Tests.{both-hold}
-use Rattle.ranges.proofs.Ranges.{Between}
+use Rattle.accept_ranges.proofs.Ranges.{Between}
 use Rattle.period.specs.Period.{PeriodDone}
-use Rattle.run.specs.declared.Ran.{Ran}
-use Rattle.run.specs.Run.{RunDone}
+use Rattle.period_run.specs.declared.Ran.{Ran}
+use Rattle.period_run.specs.Run.{RunDone}
 use Rattle.recut.specs.Recut.{RecutDone}
-use Rattle.diagram.specs.declared.Settings.{Settings}
-use Rattle.row_maker.specs.declared.Diagram.{Diagram}
-use Rattle.row_maker.specs.declared.RowValues.{RowValues}
-use Rattle.row_maker.specs.declared.RowNumbers.{RowNumbers}
-use Rattle.diagram.specs.declared.Calibration.{Calibration}
-use Rattle.diagram.specs.declared.Calibration.the-variants.{Calibrated, NotCalibrated}
-use Rattle.row_maker.specs.RowNumbers.{rowNumbers}
-use Rattle.diagram.specs.Calibration.{calibrationChecks, fittedDiagram, fittedValues, calibratedAs, calibrationOf}
+use Rattle.calibrate_fit.specs.declared.Settings.{Settings}
+use Rattle.calibrate_rows.specs.declared.Diagram.{Diagram}
+use Rattle.calibrate_rows.specs.declared.RowValues.{RowValues}
+use Rattle.calibrate_rows.specs.declared.RowNumbers.{RowNumbers}
+use Rattle.calibrate_fit.specs.declared.Calibration.{Calibration}
+use Rattle.calibrate_fit.specs.declared.Calibration.the-variants.{Calibrated, NotCalibrated}
+use Rattle.calibrate_rows.specs.RowNumbers.{rowNumbers}
+use Rattle.calibrate_fit.specs.Calibration.{calibrationChecks, fittedDiagram, fittedValues, calibratedAs, calibrationOf}
 use Rattle.figwimple.specs.Words.{HALF, wordOf, Placed}
 use Rattle.figwimple.specs.Calls.{PeriodCalled, RunCalled, RecutCalled, fiveOf, fourOf, resultsFit, CalibrateCalled}
 use Rattle.figwimple.proofs.Places.{calibration-placed}

@@ -15,19 +15,19 @@ use Rattle.refusals.specs.declared.Answer.the-variants.{Accepted, Refused}
 use Rattle.layout.specs.Layout.{cells, demandLength}
 use Rattle.refusals.specs.Refusals.{placeOf}
 use Rattle.refusals.specs.Checks.{Check, least, orLater, answer, whenAccepted, lengths}
-use Rattle.tables.specs.Tables.{tableLengthFits, tableNumbers, tableChecks, bothTables}
-use Rattle.corridor.specs.Acceptance.{stateLengthsFit, rowLengthsFit, stateInRange, stateNumbers, demandNumbers, stateChecks, rowChecks}
+use Rattle.accept_tables.specs.Tables.{tableLengthFits, tableNumbers, tableChecks, bothTables}
+use Rattle.accept_rows.specs.Acceptance.{stateLengthsFit, rowLengthsFit, stateInRange, stateNumbers, demandNumbers, stateChecks, rowChecks}
 use Rattle.refusals.proofs.Answers.{accepted-passes}
 use Rattle.whole.proofs.Tests.{both-hold}
-use Rattle.corridor.proofs.Lengths.{cells-fit}
+use Rattle.accept_rows.proofs.Lengths.{cells-fit}
 use Rattle.period.specs.Period.{periodChecks}
 use Rattle.layout.specs.Sheet.{sheetLength}
-use Rattle.run.specs.Run.{rows, rowOf, stateAfterPeriods, runListsFit, runChecks, isAccepted, rowAnswer, completed, rowsAnswer, periodsRun, runAnswer}
+use Rattle.period_run.specs.Run.{rows, rowOf, stateAfterPeriods, runListsFit, runChecks, isAccepted, rowAnswer, completed, rowsAnswer, periodsRun, runAnswer}
 use Rattle.recut.specs.Recut.{recutListsFit, piecesNumbers, recutChecks}
-use Rattle.row_maker.specs.Rows.{valuesFit}
-use Rattle.diagram.specs.declared.Settings.{Settings}
-use Rattle.diagram.specs.Calibration.{lengthsFit, samplesUsable, diagramFits, fittedValues, calibrationChecks}
-use Rattle.diagram.proofs.Answers.{lengths-fit}
+use Rattle.calibrate_rows.specs.Rows.{valuesFit}
+use Rattle.calibrate_fit.specs.declared.Settings.{Settings}
+use Rattle.calibrate_fit.specs.Calibration.{lengthsFit, samplesUsable, diagramFits, fittedValues, calibrationChecks}
+use Rattle.calibrate_fit.proofs.Answers.{lengths-fit}
 use Rattle.figwimple.specs.Words.{HALF, Placed}
 
 -- each refusal of each check has a place that fits

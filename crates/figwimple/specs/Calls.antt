@@ -10,13 +10,13 @@ use Rattle.whole.specs.Search.{pick}
 use Rattle.refusals.specs.declared.Answer.{Answer}
 use Rattle.refusals.specs.Checks.{answer, whenAccepted}
 use Rattle.period.specs.Period.{periodChecks, PeriodDone}
-use Rattle.run.specs.Run.{periodsRun, runAnswer, stateAfterPeriods, sheetAfterPeriods}
+use Rattle.period_run.specs.Run.{periodsRun, runAnswer, stateAfterPeriods, sheetAfterPeriods}
 use Rattle.recut.specs.Recut.{recutChecks, RecutDone}
-use Rattle.diagram.specs.declared.Settings.{Settings}
-use Rattle.row_maker.specs.declared.Diagram.{Diagram}
-use Rattle.row_maker.specs.declared.RowNumbers.{RowNumbers}
-use Rattle.row_maker.specs.RowNumbers.{rowNumbers}
-use Rattle.diagram.specs.Calibration.{calibrationChecks, fittedDiagram, fittedValues}
+use Rattle.calibrate_fit.specs.declared.Settings.{Settings}
+use Rattle.calibrate_rows.specs.declared.Diagram.{Diagram}
+use Rattle.calibrate_rows.specs.declared.RowNumbers.{RowNumbers}
+use Rattle.calibrate_rows.specs.RowNumbers.{rowNumbers}
+use Rattle.calibrate_fit.specs.Calibration.{calibrationChecks, fittedDiagram, fittedValues}
 use Rattle.figwimple.specs.Words.{wordOf, withLists}
 
 pub record PeriodCalled (table state demand sheet : List ℕ) (word : ℕ) (stateLeft sheetLeft : List ℕ) : Type 0 where

@@ -3,16 +3,16 @@
 ghost use mathlib.Core.Path.{_≡_};
 ghost use lib.ListN.{length};
 ghost use Rattle.refusals.specs.Checks.{answer};
-ghost use Rattle.tables.specs.Tables.{tableChecks};
-ghost use Rattle.corridor.specs.Acceptance.{stateChecks, rowChecks};
+ghost use Rattle.accept_tables.specs.Tables.{tableChecks};
+ghost use Rattle.accept_rows.specs.Acceptance.{stateChecks, rowChecks};
 ghost use Rattle.figwimple.specs.Words.{wordOf, Placed};
 ghost use Rattle.figwimple.specs.Calls.{PeriodCalled, RunCalled, RecutCalled, settingsOf, fiveOf, fourOf, resultsFit, CalibrateCalled};
-use diagram::Calibration;
-use diagram::Settings;
+use calibrate_fit::Calibration;
+use calibrate_fit::Settings;
 use refusals::Answer;
 use refusals::Refusal;
-use row_maker::Diagram;
-use row_maker::RowNumbers;
+use calibrate_rows::Diagram;
+use calibrate_rows::RowNumbers;
 
 // The word of an answer whose place is below 2^32.
 fn word(answered: Answer) -> u64
@@ -34,7 +34,7 @@ fn word(answered: Answer) -> u64
 pub extern "C" fn figwimple_accept_table(table: &[u32]) -> u64
     ensures { λ r. ⌜ r ≡ wordOf (answer (tableChecks (now (table .entry)))) ⌝ }
 {
-    word(tables::accept_table(table))
+    word(accept_tables::accept_table(table))
 }
 
 // Whether a state is accepted under a table: numbers 1 to 5.
@@ -42,7 +42,7 @@ pub extern "C" fn figwimple_accept_table(table: &[u32]) -> u64
 pub extern "C" fn figwimple_accept_state(table: &[u32], state: &[u32]) -> u64
     ensures { λ r. ⌜ r ≡ wordOf (answer (stateChecks (now (table .entry)) (now (state .entry)))) ⌝ }
 {
-    word(corridor::accept_state(table, state))
+    word(accept_rows::accept_state(table, state))
 }
 
 // Whether a demand row is accepted under a table and a state: numbers 1 to 7.
@@ -50,7 +50,7 @@ pub extern "C" fn figwimple_accept_state(table: &[u32], state: &[u32]) -> u64
 pub extern "C" fn figwimple_accept_row(table: &[u32], state: &[u32], demand: &[u32]) -> u64
     ensures { λ r. ⌜ r ≡ wordOf (answer (rowChecks (now (table .entry)) (now (state .entry)) (now (demand .entry)))) ⌝ }
 {
-    word(corridor::accept_row(table, state, demand))
+    word(accept_rows::accept_row(table, state, demand))
 }
 
 // One period: numbers 1 to 7.
@@ -80,7 +80,7 @@ pub extern "C" fn figwimple_run(
     if periods.len() != 1 {
         return word(Answer::Refused(Refusal::Length));
     }
-    let ran = run::run(table, state, demand, sheet);
+    let ran = period_run::run(table, state, demand, sheet);
     periods[0] = ran.periods as u32;
     let answered = ran.answer;
     word(answered)
@@ -157,7 +157,7 @@ pub extern "C" fn figwimple_calibrate(
         start,
         end,
     };
-    let found = diagram::calibrate(flow, occupancy, settings);
+    let found = calibrate_fit::calibrate(flow, occupancy, settings);
     match found {
         Calibration::NotCalibrated(refusal) => word(Answer::Refused(refusal)),
         Calibration::Calibrated(fitted, numbers) => {

@@ -6,9 +6,9 @@ use native.Mathlib.Omega.{arith}
 use Rattle.whole.specs.Sums.{sum, atPosition}
 use Rattle.whole.proofs.Sums.{sum-of-sums, sum-of-equal-terms, balance}
 use Rattle.layout.specs.Layout.{cells, countAt, queueAt, onDemandAt}
-use Rattle.corridor.specs.Vehicles.{vehicles}
-use Rattle.tables.proofs.Accepted.{TableFits}
-use Rattle.corridor.proofs.Accepted.{StateFits, RowFits}
+use Rattle.accept_rows.specs.Vehicles.{vehicles}
+use Rattle.accept_tables.proofs.Accepted.{TableFits}
+use Rattle.accept_rows.proofs.Accepted.{StateFits, RowFits}
 use Rattle.period.specs.Sharing.{Sharing}
 use Rattle.period.specs.Period.{flowAt, offFlowAt, onFlowAt, countAfter, queueAfter, stateAfter}
 use Rattle.period.proofs.Fair.{Fair}

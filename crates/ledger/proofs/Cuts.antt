@@ -8,8 +8,8 @@ use borrow.Author.Tests.{eq-eqb}
 use Rattle.refusals.specs.declared.Answer.{Answer}
 use Rattle.refusals.specs.declared.Answer.the-variants.{Accepted, Refused}
 use Rattle.refusals.specs.Checks.{answer, whenAccepted}
-use Rattle.tables.specs.Tables.{tableLengthFits}
-use Rattle.corridor.specs.Acceptance.{stateNumbers}
+use Rattle.accept_tables.specs.Tables.{tableLengthFits}
+use Rattle.accept_rows.specs.Acceptance.{stateNumbers}
 use Rattle.refusals.proofs.Answers.{lengths-passed}
 use Rattle.recut.specs.Recut.{newState, recutChecks}
 use Rattle.recut.proofs.Facts.{CutFits, cut-fits}

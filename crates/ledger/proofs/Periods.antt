@@ -12,9 +12,9 @@ use Rattle.whole.proofs.Search.{is-first}
 use Rattle.refusals.specs.declared.Answer.{Answer}
 use Rattle.refusals.specs.declared.Answer.the-variants.{Accepted, Refused}
 use Rattle.layout.specs.Layout.{cells, rowAt, queueAt, onDemandAt}
-use Rattle.corridor.specs.Vehicles.{atOnRamp}
+use Rattle.accept_rows.specs.Vehicles.{atOnRamp}
 use Rattle.refusals.specs.Checks.{answer, whenAccepted}
-use Rattle.corridor.specs.Acceptance.{stateLengthsFit, stateNumbers, demandNumbers}
+use Rattle.accept_rows.specs.Acceptance.{stateLengthsFit, stateNumbers, demandNumbers}
 use Rattle.refusals.proofs.Answers.{accepted-passes, accepted-both, lengths-passed}
 use Rattle.period.specs.Sharing.{asymmetric}
 use Rattle.period.specs.Period.{onFlowAt, stateAfter, periodChecks}
@@ -24,7 +24,7 @@ use Rattle.period.proofs.Reading.{after-length, after-queue}
 use Rattle.period.proofs.Laws.{queue-balance}
 use Rattle.period.proofs.Again.{t, s, d, state-stays-accepted}
 use Rattle.period.proofs.Rows.{same-length-fits}
-use Rattle.run.specs.Run.{rows, rowOf, isAccepted, stateAfterPeriods, rowAnswer, completed, runChecks}
+use Rattle.period_run.specs.Run.{rows, rowOf, isAccepted, stateAfterPeriods, rowAnswer, completed, runChecks}
 use Rattle.ledger.specs.Calls.{Corridor, IsAccepted, period, run, leaves, accepts, letsOut, acceptsAt, letsInAt}
 use Rattle.ledger.proofs.Balance.{vehicles-balance}
 use Rattle.ledger.proofs.Sound.{Sound, nothing, then, CallIsSound}

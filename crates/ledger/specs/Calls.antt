@@ -5,13 +5,13 @@ use mathlib.Core.List.{List, [], _∷_}
 use Rattle.whole.specs.Sums.{sum}
 use Rattle.refusals.specs.declared.Answer.the-variants.{Accepted}
 use Rattle.layout.specs.Layout.{cells, queueAt, onDemandAt}
-use Rattle.corridor.specs.Vehicles.{vehicles, atOnRamp, ramps}
+use Rattle.accept_rows.specs.Vehicles.{vehicles, atOnRamp, ramps}
 use Rattle.refusals.specs.Checks.{answer, whenAccepted}
-use Rattle.corridor.specs.Acceptance.{stateChecks}
+use Rattle.accept_rows.specs.Acceptance.{stateChecks}
 use Rattle.period.specs.Sharing.{asymmetric}
 use Rattle.period.specs.Period.{onFlowAt, stateAfter, periodChecks}
 use Rattle.ledger.specs.Account.{demanded, leftRoad}
-use Rattle.run.specs.Run.{rowOf, stateAfterPeriods, periodsRun}
+use Rattle.period_run.specs.Run.{rowOf, stateAfterPeriods, periodsRun}
 use Rattle.recut.specs.Recut.{newState, recutChecks}
 
 pub record Corridor : Type 0 where

@@ -11,12 +11,12 @@ use Rattle.whole.proofs.Search.{Passes}
 use Rattle.refusals.specs.declared.Answer.the-variants.{Accepted}
 use Rattle.layout.specs.Layout.{cells, rowAt, entryQueue, countAt, queueAt, onDemandAt}
 use Rattle.refusals.specs.Checks.{answer}
-use Rattle.ranges.specs.Ranges.{withRamp, queueLimit, demandLimit}
-use Rattle.tables.specs.Tables.{tableNumbers}
-use Rattle.corridor.specs.Acceptance.{stateInRange, stateNumbers, demandNumbers}
+use Rattle.accept_ranges.specs.Ranges.{withRamp, queueLimit, demandLimit}
+use Rattle.accept_tables.specs.Tables.{tableNumbers}
+use Rattle.accept_rows.specs.Acceptance.{stateInRange, stateNumbers, demandNumbers}
 use Rattle.refusals.proofs.Answers.{accepted-both, both-accepted, passes-accepted}
-use Rattle.tables.proofs.Accepted.{TableFits, table-fits}
-use Rattle.corridor.proofs.Accepted.{StateFits, RowFits, state-fits, row-fits}
+use Rattle.accept_tables.proofs.Accepted.{TableFits, table-fits}
+use Rattle.accept_rows.proofs.Accepted.{StateFits, RowFits, state-fits, row-fits}
 use Rattle.period.specs.Sharing.{Sharing}
 use Rattle.period.specs.Period.{queueAfter, stateAfter}
 use Rattle.period.proofs.Fair.{Fair}

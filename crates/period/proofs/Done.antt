@@ -9,7 +9,7 @@ use Rattle.refusals.specs.declared.Refusal.the-variants.{Length}
 use Rattle.refusals.specs.declared.Answer.the-variants.{Accepted, Refused}
 use Rattle.layout.specs.Layout.{cells}
 use Rattle.refusals.specs.Checks.{answer}
-use Rattle.corridor.specs.Acceptance.{rowLengthsFit, stateNumbers, demandNumbers, rowChecks}
+use Rattle.accept_rows.specs.Acceptance.{rowLengthsFit, stateNumbers, demandNumbers, rowChecks}
 use Rattle.refusals.proofs.Answers.{length-fails, length-fits-too}
 use Rattle.period.specs.Sharing.{asymmetric}
 use Rattle.period.specs.Period.{sheetOf, stateAfter, periodChecks, PeriodDone}

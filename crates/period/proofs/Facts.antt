@@ -5,13 +5,13 @@ use Prim.Native.Nat.{ℕ, _≤_, _<_}
 use lib.ListN.{length}
 use native.Mathlib.Omega.{arith}
 use Rattle.layout.specs.Layout.{cells, rowAt, countAt, stateLength, demandLength}
-use Rattle.tables.specs.Tables.{tableNumbers}
-use Rattle.corridor.specs.Acceptance.{stateInRange, stateNumbers, demandNumbers}
+use Rattle.accept_tables.specs.Tables.{tableNumbers}
+use Rattle.accept_rows.specs.Acceptance.{stateInRange, stateNumbers, demandNumbers}
 use Rattle.refusals.proofs.Answers.{accepted-passes, accepted-both}
-use Rattle.ranges.proofs.Ranges.{with-ramp-at-most}
-use Rattle.corridor.proofs.Lengths.{row-lengths}
-use Rattle.tables.proofs.Accepted.{TableFits, table-fits}
-use Rattle.corridor.proofs.Accepted.{StateFits, RowFits, state-fits, row-fits}
+use Rattle.accept_ranges.proofs.Ranges.{with-ramp-at-most}
+use Rattle.accept_rows.proofs.Lengths.{row-lengths}
+use Rattle.accept_tables.proofs.Accepted.{TableFits, table-fits}
+use Rattle.accept_rows.proofs.Accepted.{StateFits, RowFits, state-fits, row-fits}
 use Rattle.period.specs.Period.{RowAccepted}
 
 pub record Facts (table state demand : List ℕ) : Type 0 where

@@ -14,8 +14,8 @@ use Rattle.whole.specs.Search.{pick}
 use Rattle.whole.proofs.Columns.{Column, column-none, column-more, column-stays, column-then, column-last}
 use Rattle.layout.specs.declared.Row.{Row}
 use Rattle.layout.specs.Layout.{cells, rowAt, entryQueue, countAt, queueAt, entryDemand, onDemandAt, offDemandAt}
-use Rattle.tables.proofs.Accepted.{TableFits}
-use Rattle.corridor.proofs.Accepted.{RowFits}
+use Rattle.accept_tables.proofs.Accepted.{TableFits}
+use Rattle.accept_rows.proofs.Accepted.{RowFits}
 use Rattle.layout.specs.declared.Flows.{Flows}
 use Rattle.period.specs.Cell.{R, offFlow, flowsUpTo}
 use Rattle.period.specs.Sharing.{asymmetric}

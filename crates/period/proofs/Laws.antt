@@ -8,8 +8,8 @@ use borrow.Author.Tests.{lt-ltb}
 use lib.Dec.{ltb}
 use Rattle.whole.specs.Search.{pick}
 use Rattle.layout.specs.Layout.{cells, rowAt, entryQueue, countAt, queueAt, entryDemand, onDemandAt, offDemandAt}
-use Rattle.tables.proofs.Accepted.{TableFits}
-use Rattle.corridor.proofs.Accepted.{StateFits, RowFits}
+use Rattle.accept_tables.proofs.Accepted.{TableFits}
+use Rattle.accept_rows.proofs.Accepted.{StateFits, RowFits}
 use Rattle.period.specs.Sharing.{Sharing}
 use Rattle.period.specs.Period.{offerAt, rampOfferAt, flowAt, offFlowAt, onFlowAt, countAfter, entryQueueAfter, queueAfter}
 use Rattle.period.proofs.Fair.{Fair, sends-what-it-has, leaves-what-it-has}

@@ -8,8 +8,8 @@ use lib.ListN.{length}
 use Rattle.refusals.specs.declared.Answer.the-variants.{Accepted}
 use Rattle.layout.specs.Layout.{cells, stateLength, demandLength}
 use Rattle.refusals.specs.Checks.{answer}
-use Rattle.tables.specs.Tables.{tableLengthFits}
-use Rattle.corridor.specs.Acceptance.{stateLengthsFit, rowLengthsFit, stateNumbers, demandNumbers, demandChecks}
+use Rattle.accept_tables.specs.Tables.{tableLengthFits}
+use Rattle.accept_rows.specs.Acceptance.{stateLengthsFit, rowLengthsFit, stateNumbers, demandNumbers, demandChecks}
 use Rattle.refusals.proofs.Answers.{lengths-passed, both-accepted}
 use Rattle.whole.proofs.Tests.{both-hold}
 use Rattle.period.specs.Period.{RowAccepted}

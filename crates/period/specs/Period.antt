@@ -13,7 +13,7 @@ use Rattle.refusals.specs.declared.Answer.the-variants.{Accepted}
 use Rattle.layout.specs.Layout.{cells, rowAt, entryQueue, countAt, queueAt, entryDemand, onDemandAt, offDemandAt}
 use Rattle.layout.specs.Sheet.{sheetLength}
 use Rattle.refusals.specs.Checks.{Check, answer, whenAccepted, lengths}
-use Rattle.corridor.specs.Acceptance.{rowLengthsFit, stateNumbers, demandNumbers, rowChecks}
+use Rattle.accept_rows.specs.Acceptance.{rowLengthsFit, stateNumbers, demandNumbers, rowChecks}
 use Rattle.period.specs.Cell.{M, capacityNow, offered, rampOffered, offFlow}
 use Rattle.period.specs.Sharing.{Sharing, asymmetric}
 

@@ -5,7 +5,7 @@ ghost use lib.ListN.{length};
 ghost use mathlib.Core.Bool.{true};
 ghost use Rattle.layout.specs.Layout.{cells, demandLength};
 ghost use Rattle.refusals.specs.Checks.{answer};
-ghost use Rattle.corridor.specs.Acceptance.{stateLengthsFit, stateNumbers, demandNumbers};
+ghost use Rattle.accept_rows.specs.Acceptance.{stateLengthsFit, stateNumbers, demandNumbers};
 ghost use Rattle.period.specs.Period.{PeriodDone, RowDone};
 ghost use Rattle.layout.specs.Sheet.{sheetLength};
 
@@ -23,7 +23,7 @@ pub fn period(table: &[u32], state: &mut [u32], demand: &[u32], sheet: &mut [u32
     if sheet.len() != 4 * cells(table) + 1 {
         return Answer::Refused(Refusal::Length);
     }
-    let found = corridor::accept_row(table, state, demand);
+    let found = accept_rows::accept_row(table, state, demand);
     if let Answer::Refused(refusal) = found {
         return Answer::Refused(refusal);
     }

@@ -12,11 +12,11 @@ use Rattle.refusals.specs.declared.Refusal.the-variants.{Length}
 use Rattle.refusals.specs.declared.Answer.the-variants.{Accepted, Refused}
 use Rattle.layout.specs.Layout.{cells, stateLength}
 use Rattle.refusals.specs.Checks.{Check, answer}
-use Rattle.tables.specs.Tables.{tableLengthFits, bothTables, bothTablesChecks}
-use Rattle.corridor.specs.Acceptance.{stateInRange, stateAloneChecks}
+use Rattle.accept_tables.specs.Tables.{tableLengthFits, bothTables, bothTablesChecks}
+use Rattle.accept_rows.specs.Acceptance.{stateInRange, stateAloneChecks}
 use Rattle.refusals.proofs.Answers.{length-fails, length-fits-too, lengths-passed, refused-stays, accepted-goes-on, accepted-passes, accepted-both}
 use Rattle.whole.proofs.Tests.{both-hold}
-use Rattle.corridor.proofs.Lengths.{cells-fit}
+use Rattle.accept_rows.proofs.Lengths.{cells-fit}
 use Rattle.recut.specs.Recut.{newState, recutListsFit, piecesNumbers, recutChecks, Cut, RecutDone}
 
 module _ (old state pieces new list : List ℕ) where

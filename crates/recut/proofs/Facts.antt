@@ -13,14 +13,14 @@ use Rattle.whole.proofs.Search.{passes-every}
 use Rattle.refusals.specs.declared.Answer.the-variants.{Accepted}
 use Rattle.layout.specs.Layout.{cells, rowAt, stateLength, countAt}
 use Rattle.refusals.specs.Checks.{answer}
-use Rattle.tables.specs.Tables.{tableLengthFits, tableNumbers, rowsInRange, roomsShared, rampsOnce}
-use Rattle.corridor.specs.Acceptance.{stateInRange}
+use Rattle.accept_tables.specs.Tables.{tableLengthFits, tableNumbers, rowsInRange, roomsShared, rampsOnce}
+use Rattle.accept_rows.specs.Acceptance.{stateInRange}
 use Rattle.refusals.proofs.Answers.{accepted-passes, passes-accepted, both-accepted}
 use Rattle.whole.proofs.Tests.{both-hold}
-use Rattle.ranges.proofs.Ranges.{Between}
-use Rattle.corridor.proofs.Lengths.{cells-fit, state-length}
-use Rattle.tables.proofs.Accepted.{TableFits, table-fits}
-use Rattle.corridor.proofs.Accepted.{StateFits, state-fits}
+use Rattle.accept_ranges.proofs.Ranges.{Between}
+use Rattle.accept_rows.proofs.Lengths.{cells-fit, state-length}
+use Rattle.accept_tables.proofs.Accepted.{TableFits, table-fits}
+use Rattle.accept_rows.proofs.Accepted.{StateFits, state-fits}
 use Rattle.recut.specs.declared.Piece.{Piece}
 use Rattle.recut.specs.Pieces.{pieceCount, firstPiece, jamBefore, keepsOnRamp, keepsOffRamp, noOtherRamp, piecesFit, cellIsCut, pieceAt}
 use Rattle.recut.specs.Recut.{Cut}

@@ -16,11 +16,11 @@ use Rattle.whole.proofs.Search.{Passes}
 use Rattle.whole.proofs.Sums.{sum-of-equal-terms}
 use Rattle.refusals.specs.declared.Answer.the-variants.{Accepted}
 use Rattle.layout.specs.Layout.{cells, rowAt, stateLength, entryQueue, countAt, queueAt}
-use Rattle.corridor.specs.Vehicles.{vehicles, atOnRamp, atOffRamp, present, rampsTo, ramps}
+use Rattle.accept_rows.specs.Vehicles.{vehicles, atOnRamp, atOffRamp, present, rampsTo, ramps}
 use Rattle.refusals.specs.Checks.{answer}
-use Rattle.ranges.specs.Ranges.{withRamp, queueLimit}
-use Rattle.tables.specs.Tables.{tableNumbers}
-use Rattle.corridor.specs.Acceptance.{stateInRange, stateNumbers}
+use Rattle.accept_ranges.specs.Ranges.{withRamp, queueLimit}
+use Rattle.accept_tables.specs.Tables.{tableNumbers}
+use Rattle.accept_rows.specs.Acceptance.{stateInRange, stateNumbers}
 use Rattle.refusals.proofs.Answers.{both-accepted, passes-accepted}
 use Rattle.whole.proofs.Tests.{both-hold}
 use Rattle.layout.proofs.States.{laid-length, laid-entry, laid-count, laid-queue}

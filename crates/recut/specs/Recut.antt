@@ -13,8 +13,8 @@ use Rattle.refusals.specs.declared.Answer.the-variants.{Accepted}
 use Rattle.refusals.specs.declared.Refusal.the-variants.{Pieces}
 use Rattle.layout.specs.Layout.{cells, rowAt, stateLength, entryQueue, countAt, queueAt}
 use Rattle.refusals.specs.Checks.{Check, answer, whenAccepted, lengths}
-use Rattle.tables.specs.Tables.{tableLengthFits, bothTables, bothTablesChecks}
-use Rattle.corridor.specs.Acceptance.{stateInRange, stateAloneChecks}
+use Rattle.accept_tables.specs.Tables.{tableLengthFits, bothTables, bothTablesChecks}
+use Rattle.accept_rows.specs.Acceptance.{stateInRange, stateAloneChecks}
 use Rattle.recut.specs.Pieces.{pieceCount, cellIsCut, pieceAt}
 
 -- the vehicles of a piece: n·C/J − n·C'/J, each rounded down, with C' the sum of J before it and C the sum with it

@@ -111,11 +111,11 @@ pub fn recut(old: &[u32], state: &[u32], pieces: &[u32], new: &[u32], list: &mut
     if !recut_lists_fit(old, state, pieces, new, list) {
         return Answer::Refused(Refusal::Length);
     }
-    let tables = tables::accept_tables(old, new);
+    let tables = accept_tables::accept_both(old, new);
     if let Answer::Refused(refusal) = tables {
         return Answer::Refused(refusal);
     }
-    let numbers = corridor::accept_state_alone(old, state);
+    let numbers = accept_rows::accept_state_alone(old, state);
     if let Answer::Refused(refusal) = numbers {
         return Answer::Refused(refusal);
     }

@@ -4,14 +4,14 @@ use mathlib.Core.Path.{_≡_, refl}
 use mathlib.Core.Bool.{Bool, true, false}
 use mathlib.Core.List.{List, [], _∷_, _++_, append-assoc}
 use lib.ListN.{length}
-use Rattle.scans.specs.Scans.{begin}
-use Rattle.scans.specs.declared.Scan.{Scan}
-use Rattle.steps.specs.Demand.{How, later, over, unfit, Followed, follow, followEnd, runFits, ifFits, followCall, endCall, runOf, Leaves}
-use Rattle.steps.specs.Steps.{Leads}
-use Rattle.steps.specs.declared.Run.{Run}
-use Rattle.steps.specs.declared.Run.the-variants as Run
-use Rattle.steps.proofs.Sheets.{Within, follow-within}
-use Rattle.steps.proofs.Leading.{leads-here, next-chunk-leads}
+use Rattle.text_scans.specs.Scans.{begin}
+use Rattle.text_scans.specs.declared.Scan.{Scan}
+use Rattle.program_steps.specs.Demand.{How, later, over, unfit, Followed, follow, followEnd, runFits, ifFits, followCall, endCall, runOf, Leaves}
+use Rattle.program_steps.specs.Steps.{Leads}
+use Rattle.program_steps.specs.declared.Run.{Run}
+use Rattle.program_steps.specs.declared.Run.the-variants as Run
+use Rattle.program_steps.proofs.Sheets.{Within, follow-within}
+use Rattle.program_steps.proofs.Leading.{leads-here, next-chunk-leads}
 use Rattle.simulate.specs.Loops.{LastCall, refuses, ends, unfits, Closes, Goes, GoesOn}
 use Rattle.simulate.specs.declared.Next.{Next}
 use Rattle.simulate.specs.declared.Next.the-variants.{On, Over, Lost, Shut, Unfit}

@@ -2,13 +2,13 @@
 use Prim.Native.Nat.{ℕ}
 use mathlib.Core.Path.{_≡_, refl, sym}
 use mathlib.Core.List.{List, [], _∷_, _++_}
-use Rattle.scans.specs.Scans.{begin}
-use Rattle.files.specs.Files.{fileOn, fileEnd}
-use Rattle.steps.specs.Steps.{piecesOn, readFile}
-use Rattle.files.specs.declared.Reading.{Reading}
-use Rattle.files.specs.declared.Reading.the-variants.{On}
-use Rattle.files.specs.declared.File.{File}
-use Rattle.files.specs.declared.File.the-variants.{Holds, BrokenAt, Lost}
+use Rattle.text_scans.specs.Scans.{begin}
+use Rattle.program_files.specs.Files.{fileOn, fileEnd}
+use Rattle.program_steps.specs.Steps.{piecesOn, readFile}
+use Rattle.program_files.specs.declared.Reading.{Reading}
+use Rattle.program_files.specs.declared.Reading.the-variants.{On}
+use Rattle.program_files.specs.declared.File.{File}
+use Rattle.program_files.specs.declared.File.the-variants.{Holds, BrokenAt, Lost}
 use Rattle.simulate.specs.Loops.{ChunkRead, ChunksRead, FileRead}
 
 module _ (fields : ℕ) where

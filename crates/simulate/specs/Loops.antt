@@ -5,13 +5,13 @@ use mathlib.Core.Path.{_≡_}
 use mathlib.Core.Bool.{false}
 use mathlib.Core.List.{List, []}
 use lib.Seq.{sets}
-use Rattle.scans.specs.declared.Scan.{Scan}
-use Rattle.files.specs.Files.{fileOn}
-use Rattle.steps.specs.Demand.{over, unfit, Followed, silent, follow, followEnd, runFits}
-use Rattle.steps.specs.Steps.{chunks, readFile, Leads}
-use Rattle.files.specs.declared.Reading.{Reading}
-use Rattle.files.specs.declared.File.{File}
-use Rattle.files.specs.declared.File.the-variants as File
+use Rattle.text_scans.specs.declared.Scan.{Scan}
+use Rattle.program_files.specs.Files.{fileOn}
+use Rattle.program_steps.specs.Demand.{over, unfit, Followed, silent, follow, followEnd, runFits}
+use Rattle.program_steps.specs.Steps.{chunks, readFile, Leads}
+use Rattle.program_files.specs.declared.Reading.{Reading}
+use Rattle.program_files.specs.declared.File.{File}
+use Rattle.program_files.specs.declared.File.the-variants as File
 use Rattle.simulate.specs.declared.Got.{Got}
 use Rattle.simulate.specs.declared.Got.the-variants as Got
 use Rattle.simulate.specs.declared.Next.{Next}

@@ -5,17 +5,17 @@ ghost use mathlib.Core.Path.{_≡_};
 ghost use Prim.Native.Nat.{_≤_};
 ghost use lib.ListN.{length};
 ghost use mathlib.Core.List.{[]};
-ghost use Rattle.scans.specs.Scans.{begin};
+ghost use Rattle.text_scans.specs.Scans.{begin};
 ghost use Rattle.simulate.specs.Loops.{SomeRead, FileRead, Goes, GoesOn};
-use digits::Written;
-use files::File;
-use files::Found;
-use files::Reading;
-use files::Stop;
-use scans::Scan;
-use steps::Run;
-use steps::demand;
-use steps::lines;
+use text_digits::Written;
+use program_files::File;
+use program_files::Found;
+use program_files::Reading;
+use program_files::Stop;
+use text_scans::Scan;
+use program_steps::Run;
+use program_steps::demand;
+use program_steps::lines;
 
 // What one read of a file came to.
 pub enum Got {
@@ -114,14 +114,14 @@ fn read_some(fd: i32, name: &[u8], fields: usize, reading: Reading, list: &mut [
         return Got::End;
     }
     let n = io::count(got, &buffer);
-    Got::More(files::read_on(&buffer[..n], fields, reading, list))
+    Got::More(program_files::read_on(&buffer[..n], fields, reading, list))
 }
 
 // Reads an open file of records to its end. A loop must end, so it counts its reads down from a number that no file uses up.
 fn read_all(fd: i32, name: &[u8], fields: usize, list: &mut [u32]) -> File
     ensures { λ r. ⌜ FileRead r fields (now (list .entry)) (now (list .exit)) ⌝ }
 {
-    let mut reading = files::start();
+    let mut reading = program_files::start();
     let mut reads = u64::MAX;
     while 0 < reads {
         reads -= 1;
@@ -131,7 +131,7 @@ fn read_all(fd: i32, name: &[u8], fields: usize, list: &mut [u32]) -> File
                 reading = next;
             }
             Got::End => {
-                return files::read_end(fields, reading, list);
+                return program_files::read_end(fields, reading, list);
             }
             Got::Lost => {
                 return File::Lost;
@@ -257,7 +257,7 @@ fn run_demand(
     ensures { λ r. ⌜ GoesOn r (now (table .entry)) 1 begin (now (row .entry)) (now (state .entry)) (now (sheet .entry)) (now (row .exit)) (now (state .exit)) (now (sheet .exit)) (now (out .exit)) ⌝ }
 {
     let mut k = 1;
-    let mut scan = scans::begin();
+    let mut scan = text_scans::begin();
     let mut reads = u64::MAX;
     while 0 < reads {
         reads -= 1;
@@ -287,9 +287,9 @@ fn run_demand(
 // The demand is over, or it could not be read on while a period was tried.
 fn end_run(next: Next, out: &mut [u8]) {
     match next {
-        Next::On { k, scan: _ } => halt(files::demand_lost(k), out),
-        Next::Lost => halt(files::demand_lost(0), out),
-        Next::Unfit => halt(files::demand_lost(0), out),
+        Next::On { k, scan: _ } => halt(program_files::demand_lost(k), out),
+        Next::Lost => halt(program_files::demand_lost(0), out),
+        Next::Unfit => halt(program_files::demand_lost(0), out),
         Next::Over => {}
         Next::Shut => {}
     }
@@ -302,7 +302,7 @@ fn with_state(n: usize, table: &[u32], state: &mut [u32], out: &mut [u8])
     let fd = os::open_read(b"demand.csv");
     if fd < 0 {
         os::fail(b"demand.csv");
-        halt(files::demand_lost(0), out);
+        halt(program_files::demand_lost(0), out);
         return;
     }
     let mut row = row_space();
@@ -326,7 +326,7 @@ fn with_cells(n: usize, table: &[u32], out: &mut [u8])
     let mut space = row_space();
     let state: &mut [u32] = &mut space[..2 * n + 1];
     let file = read_file(b"state.csv", 2 * n + 1, state);
-    let found = files::state_found(file, table, state);
+    let found = program_files::state_found(file, table, state);
     match found {
         Found::Go(_) => with_state(n, table, state, out),
         Found::Halt(stop) => halt(stop, out),
@@ -342,7 +342,7 @@ fn main() {
         return;
     }
     let file = read_file(b"cells.csv", 9, &mut table);
-    let found = files::cells_found(file);
+    let found = program_files::cells_found(file);
     match found {
         Found::Go(n) => with_cells(n, &table[..9 * n], &mut out),
         Found::Halt(stop) => halt(stop, &mut out),

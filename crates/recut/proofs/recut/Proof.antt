@@ -5,8 +5,8 @@ use borrow.Author.Tests.{not-true, not-false}
 use borrow.Author.Needs.{needs}
 use Rattle.refusals.specs.declared.Answer.the-variants.{Accepted}
 use Rattle.refusals.specs.Checks.{answer}
-use Rattle.tables.specs.Tables.{bothTablesChecks}
-use Rattle.corridor.specs.Acceptance.{stateAloneChecks}
+use Rattle.accept_tables.specs.Tables.{bothTablesChecks}
+use Rattle.accept_rows.specs.Acceptance.{stateAloneChecks}
 use Rattle.recut.specs.Recut.{recutListsFit, piecesNumbers}
 use Rattle.recut.proofs.Done.{lists-refused, tables-refused, state-refused, pieces-refused, pieces-ask, counts-length, list-length, cut-done}
 use Rattle.recut.proofs.recut.Statement.{statement}
@@ -17,7 +17,7 @@ fit : (c : tie.Else1) → let lists = c .before .before .before .before .before 
 fit c = sym (c .before .recut-lists-fit .ensures) ∙ not-false _ (c .if1 .left)
 
 tables-told : (c : tie.After-enum-told) → let lists = c .before .before .before .before .before .before .before .before .before .before .before .args in Accepted ≡ answer (bothTablesChecks (lists .old .now) (lists .new .now))
-tables-told c = sym (c .enum-told .given .1) ∙ c .before .before .accept-tables .ensures
+tables-told c = sym (c .enum-told .given .1) ∙ c .before .before .accept-both .ensures
 
 numbers-told : (c : tie.After-enum-told2) → let lists = c .before .before .before .before .before .before .before .before .before .before .before .before .before .before .args in Accepted ≡ answer (stateAloneChecks (lists .old .now) (lists .state .now))
 numbers-told c = sym (c .enum-told2 .given .1) ∙ c .before .before .accept-state-alone .ensures
@@ -33,7 +33,7 @@ returns c =
 returns-2 : tie.Need-returns-2
 returns-2 c =
     let lists = c .before .before .before .before .before .before .before .before .before .before .before .before .args in
-    tables-refused (lists .old .now) (lists .state .now) (lists .pieces .now) (lists .new .now) (lists .list .now) (fit (c .before .before .before .before)) (sym (c .before .tables .given .1) ∙ c .before .before .before .accept-tables .ensures)
+    tables-refused (lists .old .now) (lists .state .now) (lists .pieces .now) (lists .new .now) (lists .list .now) (fit (c .before .before .before .before)) (sym (c .before .tables .given .1) ∙ c .before .before .before .accept-both .ensures)
 
 returns-3 : tie.Need-returns-3
 returns-3 c =

@@ -5,8 +5,8 @@ use native.Mathlib.Omega.{arith}
 use borrow.Author.Needs.{needs}
 use borrow.Rule.Slice.PartAt.{part-to-end}
 use lib.ListN.{length, drop, length-drop}
-use Rattle.steps.proofs.Sheets.{call-reads}
-use Rattle.steps.proofs.Leading.{LeadsTo, leads-here, call-leads, leads-to-its-end}
+use Rattle.program_steps.proofs.Sheets.{call-reads}
+use Rattle.program_steps.proofs.Leading.{LeadsTo, leads-here, call-leads, leads-to-its-end}
 use Rattle.simulate.proofs.Going.{call-closes}
 use Rattle.simulate.proofs.follow_chunk.Statement.{statement}
 use Rattle.simulate.proofs.follow_chunk.Tie as tie

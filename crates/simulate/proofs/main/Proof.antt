@@ -3,7 +3,7 @@ use Prim.Native.Nat.{_*_}
 use mathlib.Core.Path.{sym, _∙_}
 use native.Mathlib.Omega.{arith}
 use lib.Seq.{length-take-le}
-use Rattle.files.proofs.Finding.{cells-told}
+use Rattle.program_files.proofs.Finding.{cells-told}
 use borrow.Author.Needs.{needs}
 use Rattle.simulate.proofs.main.Statement.{statement}
 use Rattle.simulate.proofs.main.Tie as tie

@@ -1,0 +1,45 @@
+-- `accept_rows::checks::demand_in_range` meets its contract, by the law of the least index that fails. Assumes nothing.
+use Prim.Native.Nat.{_-_, _+_}
+use mathlib.Core.Path.{ap}
+use mathlib.Core.Bool.{not, _&&_, _||_}
+use borrow.Author.Needs.{needs}
+use Rattle.whole.proofs.Search.{Searching, begins, goes-on, found, not-found}
+use Rattle.layout.specs.Layout.{cells}
+use Rattle.accept_rows.specs.Acceptance.{demandInRange, queuesHold}
+use Rattle.accept_rows.proofs.checks.demand_in_range.Statement.{statement}
+use Rattle.accept_rows.proofs.checks.demand_in_range.Tie as tie
+
+abbrev Inv-loop : tie.InvT-loop
+Inv-loop table state demand queues n i₀ i =
+    Searching (cells table + 1) (λ p. (not queues || queuesHold table state demand .test p) && demandInRange table demand .test p) n i
+
+abbrev μ-loop : tie.MeasureT-loop
+μ-loop table state demand queues n i₀ i = n - i
+
+loop-holds : tie.Need-loop-holds Inv-loop μ-loop
+loop-holds c = begins _ (ap (λ m. m + 1) (c .cells .ensures))
+
+returns : tie.Need-returns Inv-loop μ-loop
+returns c = found (c .before .before .before .loop .inv) (search needs) (c .before .demand-fits-at .ensures) (c .if1 .taken)
+
+loop-again : tie.Need-loop-again Inv-loop μ-loop
+loop-again c = goes-on (c .before .before .before .loop .inv) (search needs) (c .before .demand-fits-at .ensures) (c .if1 .left)
+
+returns-2 : tie.Need-returns-2 Inv-loop μ-loop
+returns-2 c = not-found (c .before .loop .inv) (search needs)
+
+pub demand-in-range-spec : {M : Type 1} → statement M
+demand-in-range-spec =
+    tie.close
+    (tie.spec
+    Inv-loop
+    μ-loop
+    (λ c κs. search needs)
+    (λ c. search needs)
+    loop-holds
+    (λ c κs. search needs)
+    returns
+    (λ c. search needs)
+    (λ c. search needs)
+    loop-again
+    returns-2)

@@ -1,0 +1,17 @@
+-- `accept_rows::row_lengths_fit` meets its contract. Assumes nothing.
+use borrow.Author.Needs.{needs}
+use Rattle.accept_rows.proofs.row_lengths_fit.Statement.{statement}
+use Rattle.accept_rows.proofs.row_lengths_fit.Tie as tie
+
+returns : tie.Need-returns
+returns c = rw (c .before .state-lengths-fit .ensures, c .cells .ensures)
+
+pub row-lengths-fit-spec : {M : Type 1} → statement M
+row-lengths-fit-spec =
+    tie.close
+    (tie.spec
+    (λ c κs. search needs)
+    (λ c κs. search needs)
+    (λ c. search needs)
+    (λ c. search needs)
+    returns)

@@ -1,0 +1,31 @@
+-- `calibrate_fit::calibrate` meets its contract. Assumes nothing.
+use borrow.Author.Needs.{needs}
+use Rattle.calibrate_fit.proofs.Answers.{not-fitted, not-made, calibrated}
+use Rattle.calibrate_fit.proofs.calibrate.Statement.{statement}
+use Rattle.calibrate_fit.proofs.calibrate.Tie as tie
+
+returns : tie.Need-returns
+returns c = let lists = c .before .before .before .before .before .before .args in
+    not-fitted (lists .settings) (lists .flow .now) (lists .occupancy .now) (c .before .before .before .fit .ensures) (c .before .fitted .given .1)
+
+returns-2 : tie.Need-returns-2
+returns-2 c = let lists = c .before .before .before .before .before .before .before .before .before .before .args in
+    not-made (lists .settings) (lists .flow .now) (lists .occupancy .now) (c .before .before .before .before .before .before .before .fit .ensures) (c .before .before .before .before .before .fitted2 .given .1) (c .before .before .before .make-row .ensures) (c .before .made .given .1)
+
+returns-3 : tie.Need-returns-3
+returns-3 c = let lists = c .before .before .before .before .before .before .before .before .before .before .args in
+    calibrated (lists .settings) (lists .flow .now) (lists .occupancy .now) (c .before .before .before .before .before .before .before .fit .ensures) (c .before .before .before .before .before .fitted2 .given .1) (c .before .before .before .make-row .ensures) (c .before .made2 .given .1)
+
+pub calibrate-spec : {M : Type 1} → statement M
+calibrate-spec =
+    tie.close
+    (tie.spec
+    (λ c κs. search needs)
+    (λ c. search needs)
+    (λ c. search needs)
+    (λ c κs. search needs)
+    (λ c. search needs)
+    (λ c. search needs)
+    returns
+    returns-2
+    returns-3)

@@ -1,7 +1,0 @@
--- `files::broken` meets its contract. Assumes nothing.
-use mathlib.Core.Path.{refl}
-use Rattle.files.proofs.broken.Statement.{statement}
-use Rattle.files.proofs.broken.Tie as tie
-
-pub broken-spec : {M : Type 1} → statement M
-broken-spec = tie.close (tie.spec (λ c. refl))

@@ -1,0 +1,109 @@
+// One demand record at a time: read, checked, run and written.
+ghost use mathlib.Core.Path.{_≡_};
+ghost use Prim.Native.Nat.{_+_, _*_, _≤_};
+ghost use lib.ListN.{length, drop};
+ghost use Rattle.text_records.specs.Reads.{readOn, rowOn};
+ghost use Rattle.layout.specs.Layout.{cells};
+ghost use Rattle.program_steps.specs.Turns.{didRow, lastRead, did, rowAnswer, Turned, writtenTo, Ready};
+use crate::Turn;
+use crate::lines::put_period;
+use crate::lines::put_stop;
+use program_files::broken;
+use program_files::refused_in;
+use layout::cells;
+use refusals::Answer;
+use text_scans::End;
+use text_scans::Scan;
+use text_records::Read;
+
+// A complete row of period k: 6 and 7, then its period and its lines.
+fn run_row(
+    k: usize,
+    next: usize,
+    table: &[u32],
+    state: &mut [u32],
+    row: &[u32],
+    sheet: &mut [u32],
+    out: &mut [u8],
+    at: usize,
+) -> Turn
+    requires { ⌜ Ready (now table) (now state) (now row) (now sheet) ⌝ }
+    requires { ⌜ at + 149 * (cells (now table) + 1) ≤ length (now out) ⌝ }
+    ensures { λ r. ⌜ Turned (didRow (rowAnswer (now (table .entry)) (now (state .entry)) (now (row .entry))) next) k (now (table .entry)) (now (state .entry)) (now (row .entry)) (now (sheet .entry)) (now (out .entry)) at r (now (state .exit)) (now (sheet .exit)) (now (out .exit)) ⌝ }
+{
+    let checked = accept_rows::accept_demand(table, state, row);
+    let answer = period::run_row(checked, table, state, row, sheet);
+    match answer {
+        Answer::Accepted => Turn::Period {
+            next,
+            at: put_period(k, cells(table), state, sheet, out, at),
+        },
+        Answer::Refused(refusal) => Turn::Over(put_stop(refused_in(k, refusal), out, at)),
+    }
+}
+
+// The end of the demand, as what reading on comes to: a record that ends with it is complete.
+pub(crate) fn last_read(end: End) -> Read
+    ensures { λ r. ⌜ r ≡ lastRead end ⌝ }
+{
+    match end {
+        End::Nothing => Read::Part(text_scans::begin()),
+        End::Last => Read::Record(0),
+        End::Cut => Read::Broken,
+    }
+}
+
+// What reading on comes to: a period and its lines, a refusal's line, or nothing yet.
+pub(crate) fn turn_of(
+    read: Read,
+    k: usize,
+    table: &[u32],
+    state: &mut [u32],
+    row: &[u32],
+    sheet: &mut [u32],
+    out: &mut [u8],
+    at: usize,
+) -> Turn
+    requires { ⌜ Ready (now table) (now state) (now row) (now sheet) ⌝ }
+    requires { ⌜ at + 149 * (cells (now table) + 1) ≤ length (now out) ⌝ }
+    ensures { λ r. ⌜ Turned (did read (rowAnswer (now (table .entry)) (now (state .entry)) (now (row .entry)))) k (now (table .entry)) (now (state .entry)) (now (row .entry)) (now (sheet .entry)) (now (out .entry)) at r (now (state .exit)) (now (sheet .exit)) (now (out .exit)) ⌝ }
+{
+    match read {
+        Read::Part(next) => Turn::Part { scan: next, at },
+        Read::Broken => Turn::Over(put_stop(broken(k, k, 3), out, at)),
+        Read::Record(next) => run_row(k, next, table, state, row, sheet, out, at),
+    }
+}
+
+// Reads on in a chunk of the demand to the end of a record, and runs its period.
+pub(crate) fn turn(
+    chunk: &[u8],
+    from: usize,
+    scan: Scan,
+    k: usize,
+    table: &[u32],
+    state: &mut [u32],
+    row: &mut [u32],
+    sheet: &mut [u32],
+    out: &mut [u8],
+    at: usize,
+) -> Turn
+    requires { ⌜ Ready (now table) (now state) (now row) (now sheet) ⌝ }
+    requires { ⌜ at + 149 * (cells (now table) + 1) ≤ length (now out) ⌝ }
+    ensures reads { λ _. ⌜ now (row .exit) ≡ rowOn (length (now (row .entry))) scan (now (row .entry)) (drop from (now (chunk .entry))) ⌝ }
+    ensures does { λ r. ⌜ Turned (did (readOn (length (now (row .entry))) from scan (drop from (now (chunk .entry)))) (rowAnswer (now (table .entry)) (now (state .entry)) (now (row .exit)))) k (now (table .entry)) (now (state .entry)) (now (row .exit)) (now (sheet .entry)) (now (out .entry)) at r (now (state .exit)) (now (sheet .exit)) (now (out .exit)) ⌝ }
+{
+    let read = text_records::read_record(chunk, from, scan, row);
+    turn_of(read, k, table, state, row, sheet, out, at)
+}
+
+// Where what a turn has written ends.
+pub(crate) fn written_to(turn: Turn) -> usize
+    ensures { λ r. ⌜ r ≡ writtenTo turn ⌝ }
+{
+    match turn {
+        Turn::Part { scan: _, at } => at,
+        Turn::Period { next: _, at } => at,
+        Turn::Over(at) => at,
+    }
+}

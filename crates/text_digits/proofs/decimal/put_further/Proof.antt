@@ -1,0 +1,41 @@
+-- `text_digits::decimal::put_further` meets its contract. Assumes nothing.
+use mathlib.Core.Path.{refl, _∙_}
+use native.Mathlib.Omega.{arith}
+use native.Mathlib.Numerals.{add-one}
+use lib.ListN.{length-set}
+use borrow.Author.Needs.{needs}
+use Rattle.text_digits.proofs.Digits.{one-digit, at-most-20}
+use Rattle.text_digits.proofs.decimal.put_further.Statement.{statement}
+use Rattle.text_digits.proofs.decimal.put_further.Tie as tie
+
+slice-write-buffer-2 : tie.Need-slice-write-buffer-2
+slice-write-buffer-2 c = omega (arith, length-set (c .before .before .before .args .buffer .now) (c .before .before .before .args .at) 44)
+
+returns : tie.Need-returns
+returns c = rw (one-digit (c .before .before .before .args .number) (c .before .if1 .taken)) (refl, (omega arith, rw (add-one, c .digit .ensures)))
+
+put-number-requires : tie.Need-put-number-requires
+put-number-requires c κs = omega (arith, at-most-20 (c .before .before .before .args .number) (omega arith), length-set (c .before .before .before .args .buffer .now) (c .before .before .before .args .at) 44)
+
+same-length-2 : tie.Need-same-length-2
+same-length-2 c = c .before .before .put-number .kept .1 .0 ∙ length-set (c .before .before .before .before .before .before .args .buffer .now) (c .before .before .before .before .before .before .args .at) 44
+
+returns-2 : tie.Need-returns-2
+returns-2 c = let put = c .before .before .put-number .ensures in
+    (omega (arith, put .0), (omega (arith, put .0, at-most-20 (c .before .before .before .before .before .before .args .number) (omega arith)), put .1 ∙ rw add-one))
+
+pub put-further-spec : {M : Type 1} → statement M
+put-further-spec =
+    tie.close
+    (tie.spec
+    (λ c. search needs)
+    (λ c κs. search needs)
+    (λ c. search needs)
+    slice-write-buffer-2
+    (λ c. search needs)
+    (λ c. search needs)
+    returns
+    (λ c. search needs)
+    put-number-requires
+    same-length-2
+    returns-2)

@@ -1,0 +1,34 @@
+-- `text_digits::decimal::put_separated` meets its contract. Assumes nothing.
+use mathlib.Core.Path.{sym, _∙_}
+use native.Mathlib.Omega.{arith}
+use borrow.Author.Needs.{needs}
+use lib.ListN.{length-append}
+use Rattle.text_digits.specs.Lines.{digitsOf}
+use Rattle.text_digits.specs.Writes.{comma, separated}
+use Rattle.text_digits.proofs.Stores.{stores-after}
+use Rattle.text_digits.proofs.decimal.put_separated.Statement.{statement}
+use Rattle.text_digits.proofs.decimal.put_separated.Tie as tie
+
+put-comma-requires : tie.Need-put-comma-requires
+unfolding separated
+put-comma-requires c κs = let a = c .before .before .args in
+    let parts = length-append (comma (a .i)) (digitsOf (a .number)) in
+    omega (arith, parts, c .before .before .pre)
+
+put-number-requires : tie.Need-put-number-requires
+unfolding separated
+put-number-requires c κs = let a = c .before .before .before .before .before .before .args in
+    let parts = length-append (comma (a .i)) (digitsOf (a .number)) in
+    omega (arith, parts, c .before .before .before .before .before .before .pre, c .before .before .before .put-comma .ensures .0, c .before .before .before .put-comma .kept .1 .0)
+
+returns : tie.Need-returns
+unfolding separated
+returns c = let a = c .before .before .before .before .before .before .before .before .before .args in
+    let parts = length-append (comma (a .i)) (digitsOf (a .number)) in
+    let first = c .before .before .before .before .before .before .put-comma .ensures in
+    let then = c .before .before .put-number .ensures in
+    (omega (arith, parts, first .0, then .0), then .1 ∙ rw (first .1, first .0) (sym (stores-after (a .buffer .now) (a .at) (comma (a .i)) (digitsOf (a .number)))))
+
+pub put-separated-spec : {M : Type 1} → statement M
+put-separated-spec =
+    tie.close (tie.spec put-comma-requires put-number-requires (λ c. search needs) returns)

@@ -1,0 +1,34 @@
+-- `text_records::read_one` meets its contract. Assumes nothing.
+use mathlib.Core.Path.{refl, sym, _∙_, ap}
+use borrow.Author.Needs.{needs}
+use Rattle.text_records.specs.Reads.{one}
+use Rattle.text_records.proofs.read_one.Statement.{statement}
+use Rattle.text_records.proofs.read_one.Tie as tie
+
+returns : tie.Need-returns
+returns c = (
+  sym (c .before .before .before .before .before .found .given .1) ∙ c .before .before .before .before .before .before .before .one .ensures
+      ∙ ap one (c .before .before .before .before .before .before .before .before .check-text .ensures),
+  c .before .before .store-text .ensures,
+)
+
+returns-2 : tie.Need-returns-2
+returns-2 c = (sym (c .before .found2 .given .1) ∙ c .before .before .before .one .ensures ∙ ap one (c .before .before .before .before .check-text .ensures), refl)
+
+returns-3 : tie.Need-returns-3
+returns-3 c = (sym (c .enum-told .given .1) ∙ c .before .before .one .ensures ∙ ap one (c .before .before .before .check-text .ensures), refl)
+
+pub read-one-spec : {M : Type 1} → statement M
+read-one-spec =
+    tie.close
+    (tie.spec
+    (λ c κs. search needs)
+    (λ c κs. search needs)
+    (λ c. search needs)
+    (λ c κs. search needs)
+    (λ c. search needs)
+    (λ c. search needs)
+    (λ c. search needs)
+    returns
+    returns-2
+    returns-3)
