@@ -9,43 +9,44 @@ use lib.Dec.{leb}
 use Rattle.whole.specs.Search.{firstFailing}
 use Rattle.whole.proofs.Search.{Passes, IsFirst, first-is, is-first, all-pass}
 use Rattle.refusals.specs.declared.Answer.the-variants.{Accepted, Refused}
-use Rattle.layout.specs.Layout.{cells, rowAt, entryQueue, countAt, queueAt, entryDemand, onDemandAt, offDemandAt}
+use Rattle.layout.specs.Layout.{entryDemand, onDemandAt, offDemandAt}
 use Rattle.refusals.specs.Checks.{Check, least, answer}
 use Rattle.accept_ranges.specs.Ranges.{withRamp, givenOff, queueLimit, demandLimit}
 use Rattle.accept_tables.specs.Tables.{tableNumbers}
 use Rattle.accept_rows.specs.Acceptance.{stateInRange, stateNumbers, demandNumbers}
 use Rattle.refusals.proofs.Answers.{stops, passes, accepted-passes, passes-accepted, accepted-both}
 use Rattle.whole.proofs.Tests.{both-hold}
+use Rattle.layout.specs.Corridor.{Corridor, cellsOf, rowOf, entryQueueOf, countOf, queueOf}
 
-pub record StateFits (table state : List ℕ) : Type 0 where
-  pub entry : entryQueue state ≤ queueLimit
-  pub counts : (i : ℕ) → i < cells table → countAt state i ≤ rowAt table i .jam
-  pub queues : (i : ℕ) → i < cells table → queueAt (cells table) state i ≤ withRamp (rowAt table i .on) queueLimit
+pub record StateFits (c : Corridor) : Type 0 where
+  pub entry : entryQueueOf c ≤ queueLimit
+  pub counts : (i : ℕ) → i < cellsOf c → countOf c i ≤ rowOf c i .jam
+  pub queues : (i : ℕ) → i < cellsOf c → queueOf c i ≤ withRamp (rowOf c i .on) queueLimit
 
-pub record RowFits (table state demand : List ℕ) : Type 0 where
+pub record RowFits (c : Corridor) (demand : List ℕ) : Type 0 where
   pub entry : entryDemand demand ≤ demandLimit
-  pub ons : (i : ℕ) → i < cells table → onDemandAt demand i ≤ withRamp (rowAt table i .on) demandLimit
-  pub offs : (i : ℕ) → i < cells table → offDemandAt (cells table) demand i ≤ givenOff (rowAt table i)
-  pub entry-holds : entryQueue state + entryDemand demand ≤ queueLimit
-  pub queues-hold : (i : ℕ) → i < cells table → queueAt (cells table) state i + onDemandAt demand i ≤ queueLimit
+  pub ons : (i : ℕ) → i < cellsOf c → onDemandAt demand i ≤ withRamp (rowOf c i .on) demandLimit
+  pub offs : (i : ℕ) → i < cellsOf c → offDemandAt (cellsOf c) demand i ≤ givenOff (rowOf c i)
+  pub entry-holds : entryQueueOf c + entryDemand demand ≤ queueLimit
+  pub queues-hold : (i : ℕ) → i < cellsOf c → queueOf c i + onDemandAt demand i ≤ queueLimit
 
-pub state-fits : (table state : List ℕ) → answer (stateNumbers table state) ≡ Accepted → StateFits table state
-state-fits table state e =
-    let passed = accepted-passes _ _ (accepted-both (tableNumbers table) (stateInRange table state ∷ []) e .1) .0 in
+pub state-fits : (c : Corridor) → answer (stateNumbers c) ≡ Accepted → StateFits c
+state-fits c e =
+    let passed = accepted-passes _ _ (accepted-both (tableNumbers (c .table)) (stateInRange c ∷ []) e .1) .0 in
     record {
       entry = leb-true _ _ (passed 0 (omega arith));
       counts = λ i h. leb-true _ _ (both-hold _ _ (passed (suc i) (omega arith)) .0);
-      queues = λ i h. leb-true _ _ (both-hold (leb (countAt state i) (rowAt table i .jam)) _ (passed (suc i) (omega arith)) .1);
+      queues = λ i h. leb-true _ _ (both-hold (leb (countOf c i) (rowOf c i .jam)) _ (passed (suc i) (omega arith)) .1);
     }
 
-pub row-fits : (table state demand : List ℕ) → answer (demandNumbers table state demand) ≡ Accepted → RowFits table state demand
-row-fits table state demand e =
+pub row-fits : (c : Corridor) (demand : List ℕ) → answer (demandNumbers c demand) ≡ Accepted → RowFits c demand
+row-fits c demand e =
     let ranges = accepted-passes _ _ e in
     let holds = accepted-passes _ _ (ranges .1) in
     record {
       entry = leb-true _ _ (ranges .0 0 (omega arith));
       ons = λ i h. leb-true _ _ (both-hold _ _ (ranges .0 (suc i) (omega arith)) .0);
-      offs = λ i h. leb-true _ _ (both-hold (leb (onDemandAt demand i) (withRamp (rowAt table i .on) demandLimit)) _ (ranges .0 (suc i) (omega arith)) .1);
+      offs = λ i h. leb-true _ _ (both-hold (leb (onDemandAt demand i) (withRamp (rowOf c i .on) demandLimit)) _ (ranges .0 (suc i) (omega arith)) .1);
       entry-holds = leb-true _ _ (holds .0 0 (omega arith));
       queues-hold = λ i h. leb-true _ _ (holds .0 (suc i) (omega arith));
     }

@@ -4,11 +4,12 @@ use mathlib.Core.List.{List, [], _∷_, _++_}
 use lib.Dec.{eqb}
 use Rattle.whole.specs.Sums.{sum}
 use Rattle.whole.specs.Search.{pick}
-use Rattle.layout.specs.Layout.{cells, rowAt, entryQueue, countAt, queueAt}
+use Rattle.layout.specs.Layout.{cells, rowAt}
+use Rattle.layout.specs.Corridor.{Corridor, cellsOf, entryQueueOf, countOf, queueOf}
 
 -- vehicles in cells and queues
-abbrev pub vehicles : List ℕ → List ℕ → ℕ
-vehicles table state = entryQueue state + sum (cells table) (countAt state) + sum (cells table) (queueAt (cells table) state)
+abbrev pub vehicles : Corridor → ℕ
+vehicles c = entryQueueOf c + sum (cellsOf c) (countOf c) + sum (cellsOf c) (queueOf c)
 
 -- what the cells whose on-ramp, or off-ramp, has a number add up to: that one cell's, since no number occurs twice
 abbrev pub atOnRamp : List ℕ → ℕ → (ℕ → ℕ) → ℕ

@@ -8,6 +8,7 @@ ghost use Rattle.whole.specs.Search.{firstFailing};
 ghost use Rattle.layout.specs.Layout.{cells, stateLength, demandLength};
 ghost use Rattle.refusals.specs.Checks.{least};
 ghost use Rattle.accept_rows.specs.Acceptance.{stateInRange, demandInRange, queuesHold};
+ghost use Rattle.layout.specs.Corridor.{corridorOf};
 use layout::*;
 use accept_ranges::demand_fits;
 use accept_ranges::queue_holds;
@@ -17,7 +18,7 @@ use accept_ranges::state_fits;
 fn state_fits_at(table: &[u32], state: &[u32], position: usize) -> bool
     requires { ⌜ length (now state) ≡ stateLength (cells (now table)) ⌝ }
     requires { ⌜ position < cells (now table) + 1 ⌝ }
-    ensures { λ r. ⌜ r ≡ stateInRange (now (table .entry)) (now (state .entry)) .test position ⌝ }
+    ensures { λ r. ⌜ r ≡ stateInRange (corridorOf (now (table .entry)) (now (state .entry))) .test position ⌝ }
 {
     if position == 0 {
         return entry_queue(state) <= 1_000_000_000;
@@ -33,7 +34,7 @@ fn state_fits_at(table: &[u32], state: &[u32], position: usize) -> bool
 // Number 5.
 pub(crate) fn state_in_range(table: &[u32], state: &[u32]) -> usize
     requires { ⌜ length (now state) ≡ stateLength (cells (now table)) ⌝ }
-    ensures { λ r. ⌜ r ≡ least (stateInRange (now (table .entry)) (now (state .entry))) ⌝ }
+    ensures { λ r. ⌜ r ≡ least (stateInRange (corridorOf (now (table .entry)) (now (state .entry)))) ⌝ }
 {
     let n = cells(table) + 1;
     let mut i = 0;
@@ -57,7 +58,7 @@ fn demand_fits_at(
     requires { ⌜ length (now state) ≡ stateLength (cells (now table)) ⌝ }
     requires { ⌜ length (now demand) ≡ demandLength (cells (now table)) ⌝ }
     requires { ⌜ position < cells (now table) + 1 ⌝ }
-    ensures { λ r. ⌜ r ≡ ((not queues || queuesHold (now (table .entry)) (now (state .entry)) (now (demand .entry)) .test position) && demandInRange (now (table .entry)) (now (demand .entry)) .test position) ⌝ }
+    ensures { λ r. ⌜ r ≡ ((not queues || queuesHold (corridorOf (now (table .entry)) (now (state .entry))) (now (demand .entry)) .test position) && demandInRange (corridorOf (now (table .entry)) (now (state .entry))) (now (demand .entry)) .test position) ⌝ }
 {
     if position == 0 {
         let d = entry_demand(demand);
@@ -75,7 +76,7 @@ fn demand_fits_at(
 pub(crate) fn demand_in_range(table: &[u32], state: &[u32], demand: &[u32], queues: bool) -> usize
     requires { ⌜ length (now state) ≡ stateLength (cells (now table)) ⌝ }
     requires { ⌜ length (now demand) ≡ demandLength (cells (now table)) ⌝ }
-    ensures { λ r. ⌜ r ≡ firstFailing (cells (now (table .entry)) + 1) (λ p. (not queues || queuesHold (now (table .entry)) (now (state .entry)) (now (demand .entry)) .test p) && demandInRange (now (table .entry)) (now (demand .entry)) .test p) ⌝ }
+    ensures { λ r. ⌜ r ≡ firstFailing (cells (now (table .entry)) + 1) (λ p. (not queues || queuesHold (corridorOf (now (table .entry)) (now (state .entry))) (now (demand .entry)) .test p) && demandInRange (corridorOf (now (table .entry)) (now (state .entry))) (now (demand .entry)) .test p) ⌝ }
 {
     let n = cells(table) + 1;
     let mut i = 0;

@@ -7,10 +7,13 @@ ghost use lib.ListN.{length};
 ghost use Rattle.layout.specs.Layout.{cells, stateLength, demandLength};
 ghost use Rattle.refusals.specs.Checks.{answer};
 ghost use Rattle.accept_rows.specs.Acceptance.{stateLengthsFit, rowLengthsFit, stateInRange, stateNumbers, demandNumbers, stateChecks, rowChecks, demandChecks, stateAloneChecks};
+ghost use Rattle.layout.specs.Corridor.{corridorOf};
 
 mod checks;
 
 use layout::cells;
+use layout::demand_length;
+use layout::state_length;
 use refusals::Answer;
 use refusals::Refusal;
 use accept_tables::accept_table;
@@ -18,22 +21,22 @@ use accept_tables::table_length_fits;
 
 // Number 1 of a table and a state.
 fn state_lengths_fit(table: &[u32], state: &[u32]) -> bool
-    ensures { λ r. ⌜ r ≡ stateLengthsFit (now (table .entry)) (now (state .entry)) ⌝ }
+    ensures { λ r. ⌜ r ≡ stateLengthsFit (corridorOf (now (table .entry)) (now (state .entry))) ⌝ }
 {
-    table_length_fits(table) & (state.len() == 2 * cells(table) + 1)
+    table_length_fits(table) & (state.len() == state_length(cells(table)))
 }
 
 // Number 1 of a table, a state and a demand row.
 fn row_lengths_fit(table: &[u32], state: &[u32], demand: &[u32]) -> bool
-    ensures { λ r. ⌜ r ≡ rowLengthsFit (now (table .entry)) (now (state .entry)) (now (demand .entry)) ⌝ }
+    ensures { λ r. ⌜ r ≡ rowLengthsFit (corridorOf (now (table .entry)) (now (state .entry))) (now (demand .entry)) ⌝ }
 {
-    state_lengths_fit(table, state) & (demand.len() == 2 * cells(table) + 1)
+    state_lengths_fit(table, state) & (demand.len() == demand_length(cells(table)))
 }
 
 // Number 5.
 fn state_number(table: &[u32], state: &[u32]) -> Answer
     requires { ⌜ length (now state) ≡ stateLength (cells (now table)) ⌝ }
-    ensures { λ r. ⌜ r ≡ answer (stateInRange (now (table .entry)) (now (state .entry)) ∷ []) ⌝ }
+    ensures { λ r. ⌜ r ≡ answer (stateInRange (corridorOf (now (table .entry)) (now (state .entry))) ∷ []) ⌝ }
 {
     let at = checks::state_in_range(table, state);
     if at <= cells(table) {
@@ -44,8 +47,8 @@ fn state_number(table: &[u32], state: &[u32]) -> Answer
 
 // Numbers 2 to 5, where the lengths fit: so a table's own answer is never its number 1.
 fn state_numbers(table: &[u32], state: &[u32]) -> Answer
-    requires { ⌜ stateLengthsFit (now table) (now state) ≡ true ⌝ }
-    ensures { λ r. ⌜ r ≡ answer (stateNumbers (now (table .entry)) (now (state .entry))) ⌝ }
+    requires { ⌜ stateLengthsFit (corridorOf (now table) (now state)) ≡ true ⌝ }
+    ensures { λ r. ⌜ r ≡ answer (stateNumbers (corridorOf (now (table .entry)) (now (state .entry)))) ⌝ }
 {
     let found = accept_table(table);
     if let Answer::Refused(refusal) = found {
@@ -58,7 +61,7 @@ fn state_numbers(table: &[u32], state: &[u32]) -> Answer
 fn demand_numbers(table: &[u32], state: &[u32], demand: &[u32]) -> Answer
     requires { ⌜ length (now state) ≡ stateLength (cells (now table)) ⌝ }
     requires { ⌜ length (now demand) ≡ demandLength (cells (now table)) ⌝ }
-    ensures { λ r. ⌜ r ≡ answer (demandNumbers (now (table .entry)) (now (state .entry)) (now (demand .entry))) ⌝ }
+    ensures { λ r. ⌜ r ≡ answer (demandNumbers (corridorOf (now (table .entry)) (now (state .entry))) (now (demand .entry))) ⌝ }
 {
     let n = cells(table);
     let at = checks::demand_in_range(table, state, demand, true);
@@ -74,7 +77,7 @@ fn demand_numbers(table: &[u32], state: &[u32], demand: &[u32]) -> Answer
 
 // Whether a state is accepted under a table: numbers 1 to 5.
 pub fn accept_state(table: &[u32], state: &[u32]) -> Answer
-    ensures { λ r. ⌜ r ≡ answer (stateChecks (now (table .entry)) (now (state .entry))) ⌝ }
+    ensures { λ r. ⌜ r ≡ answer (stateChecks (corridorOf (now (table .entry)) (now (state .entry)))) ⌝ }
 {
     if !state_lengths_fit(table, state) {
         return Answer::Refused(Refusal::Length);
@@ -84,7 +87,7 @@ pub fn accept_state(table: &[u32], state: &[u32]) -> Answer
 
 // Whether a demand row is accepted under a table and a state: numbers 1 to 7.
 pub fn accept_row(table: &[u32], state: &[u32], demand: &[u32]) -> Answer
-    ensures { λ r. ⌜ r ≡ answer (rowChecks (now (table .entry)) (now (state .entry)) (now (demand .entry))) ⌝ }
+    ensures { λ r. ⌜ r ≡ answer (rowChecks (corridorOf (now (table .entry)) (now (state .entry))) (now (demand .entry))) ⌝ }
 {
     if !row_lengths_fit(table, state, demand) {
         return Answer::Refused(Refusal::Length);
@@ -98,7 +101,7 @@ pub fn accept_row(table: &[u32], state: &[u32], demand: &[u32]) -> Answer
 
 // Whether a demand row is accepted under a table and a state that are accepted already: numbers 1, 6 and 7.
 pub fn accept_demand(table: &[u32], state: &[u32], demand: &[u32]) -> Answer
-    ensures { λ r. ⌜ r ≡ answer (demandChecks (now (table .entry)) (now (state .entry)) (now (demand .entry))) ⌝ }
+    ensures { λ r. ⌜ r ≡ answer (demandChecks (corridorOf (now (table .entry)) (now (state .entry))) (now (demand .entry))) ⌝ }
 {
     if !row_lengths_fit(table, state, demand) {
         return Answer::Refused(Refusal::Length);
@@ -108,7 +111,7 @@ pub fn accept_demand(table: &[u32], state: &[u32], demand: &[u32]) -> Answer
 
 // Whether a state is accepted under a table that is accepted already: numbers 1 and 5.
 pub fn accept_state_alone(table: &[u32], state: &[u32]) -> Answer
-    ensures { λ r. ⌜ r ≡ answer (stateAloneChecks (now (table .entry)) (now (state .entry))) ⌝ }
+    ensures { λ r. ⌜ r ≡ answer (stateAloneChecks (corridorOf (now (table .entry)) (now (state .entry)))) ⌝ }
 {
     if !state_lengths_fit(table, state) {
         return Answer::Refused(Refusal::Length);

@@ -1,18 +1,18 @@
 -- Document 01, "Units and the cell row" and "Refusal numbers" 1 to 4: what is asked of a table, and of two.
-use Prim.Native.Nat.{ℕ, _+_, _*_, _/_, _%_}
+use Prim.Native.Nat.{ℕ, _+_, _*_, _/_}
 use mathlib.Core.Bool.{Bool, not, _&&_, _||_}
 use mathlib.Core.List.{List, [], _∷_}
 use lib.Dec.{eqb}
 use lib.ListN.{length}
 use Rattle.whole.specs.Search.{within, every}
 use Rattle.refusals.specs.declared.Refusal.the-variants.{TableNumber, RoomShares, RampAgain}
-use Rattle.layout.specs.Layout.{cells, rowAt, rampAt}
+use Rattle.layout.specs.Layout.{MOST, cells, tableLength, rowAt, rampAt}
 use Rattle.refusals.specs.Checks.{Check, lengths}
 use Rattle.accept_ranges.specs.Ranges.{rowInRange, roomShared}
 
 -- 1: a table has 1 to 512 whole rows
 abbrev pub tableLengthFits : List ℕ → Bool
-tableLengthFits table = eqb (length table % 9) 0 && within 1 512 (cells table)
+tableLengthFits table = eqb (length table) (tableLength (cells table)) && within 1 MOST (cells table)
 
 -- 4: a ramp number stands at no earlier position along the road; 0 is no ramp
 abbrev pub rampIsNew : List ℕ → ℕ → Bool

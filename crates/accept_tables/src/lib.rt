@@ -11,6 +11,7 @@ ghost use Rattle.accept_tables.specs.Tables.{tableLengthFits, rowsInRang
 mod checks;
 
 use layout::cells;
+use layout::table_length;
 use refusals::Answer;
 use refusals::Refusal;
 
@@ -19,7 +20,7 @@ pub fn table_length_fits(table: &[u32]) -> bool
     ensures { λ r. ⌜ r ≡ tableLengthFits (now (table .entry)) ⌝ }
 {
     let n = cells(table);
-    (table.len() % 9 == 0) & ((1 <= n) & (n <= 512))
+    (table.len() == table_length(n)) & ((1 <= n) & (n <= 512))
 }
 
 // Number 2, 3 or 4 of a table. Number 4 is for rows in their ranges.

@@ -1,2 +1,3 @@
-pub mod States
+pub mod Laid
+pub mod Readers
 pub mod Settled

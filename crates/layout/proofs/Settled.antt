@@ -1,11 +1,25 @@
--- The promise of each reader and writer settles its result and what the list then holds. Assumes nothing.
+-- The promise of each function settles its result and what the list then holds. Assumes nothing.
 use Prim.Native.Nat.{ℕ}
 use mathlib.Core.Path.{refl}
 use mathlib.Core.List.{List}
 use denote.Ref.{now}
 use Rattle.whole.proofs.Settles.{Settles, SettlesLists, settled}
+use Rattle.layout.proofs.width.Kinds as width-kinds
+use Rattle.layout.proofs.width.Reads as width
 use Rattle.layout.proofs.cells.Kinds as cells-kinds
 use Rattle.layout.proofs.cells.Reads as cells
+use Rattle.layout.proofs.table_length.Kinds as table-length-kinds
+use Rattle.layout.proofs.table_length.Reads as table-length
+use Rattle.layout.proofs.state_length.Kinds as state-length-kinds
+use Rattle.layout.proofs.state_length.Reads as state-length
+use Rattle.layout.proofs.demand_length.Kinds as demand-length-kinds
+use Rattle.layout.proofs.demand_length.Reads as demand-length
+use Rattle.layout.proofs.table_space.Kinds as table-space-kinds
+use Rattle.layout.proofs.table_space.Reads as table-space
+use Rattle.layout.proofs.state_space.Kinds as state-space-kinds
+use Rattle.layout.proofs.state_space.Reads as state-space
+use Rattle.layout.proofs.demand_space.Kinds as demand-space-kinds
+use Rattle.layout.proofs.demand_space.Reads as demand-space
 use Rattle.layout.proofs.row_at.Kinds as row-at-kinds
 use Rattle.layout.proofs.row_at.Reads as row-at
 use Rattle.layout.proofs.ramp_at.Kinds as ramp-at-kinds
@@ -22,12 +36,10 @@ use Rattle.layout.proofs.on_demand_at.Kinds as on-demand-at-kinds
 use Rattle.layout.proofs.on_demand_at.Reads as on-demand-at
 use Rattle.layout.proofs.off_demand_at.Kinds as off-demand-at-kinds
 use Rattle.layout.proofs.off_demand_at.Reads as off-demand-at
-use Rattle.layout.proofs.set_entry_queue.Kinds as set-entry-queue-kinds
-use Rattle.layout.proofs.set_entry_queue.Reads as set-entry-queue
-use Rattle.layout.proofs.set_count.Kinds as set-count-kinds
-use Rattle.layout.proofs.set_count.Reads as set-count
-use Rattle.layout.proofs.set_queue.Kinds as set-queue-kinds
-use Rattle.layout.proofs.set_queue.Reads as set-queue
+use Rattle.layout.proofs.sheet.sheet_length.Kinds as sheet-length-kinds
+use Rattle.layout.proofs.sheet.sheet_length.Reads as sheet-length
+use Rattle.layout.proofs.sheet.sheet_space.Kinds as sheet-space-kinds
+use Rattle.layout.proofs.sheet.sheet_space.Reads as sheet-space
 use Rattle.layout.proofs.sheet.flow_in.Kinds as flow-in-kinds
 use Rattle.layout.proofs.sheet.flow_in.Reads as flow-in
 use Rattle.layout.proofs.sheet.off_flow_in.Kinds as off-flow-in-kinds
@@ -36,13 +48,38 @@ use Rattle.layout.proofs.sheet.on_flow_in.Kinds as on-flow-in-kinds
 use Rattle.layout.proofs.sheet.on_flow_in.Reads as on-flow-in
 use Rattle.layout.proofs.sheet.mode_in.Kinds as mode-in-kinds
 use Rattle.layout.proofs.sheet.mode_in.Reads as mode-in
+use Rattle.layout.proofs.put_cell.Kinds as put-cell-kinds
+use Rattle.layout.proofs.put_cell.Reads as put-cell
+use Rattle.layout.proofs.put_demands.Kinds as put-demands-kinds
+use Rattle.layout.proofs.put_demands.Reads as put-demands
+use Rattle.layout.proofs.put_entry.Kinds as put-entry-kinds
+use Rattle.layout.proofs.put_entry.Reads as put-entry
 use Rattle.layout.proofs.sheet.put_flows.Kinds as put-flows-kinds
 use Rattle.layout.proofs.sheet.put_flows.Reads as put-flows
-use Rattle.layout.proofs.sheet.put_entry_flow.Kinds as put-entry-flow-kinds
-use Rattle.layout.proofs.sheet.put_entry_flow.Reads as put-entry-flow
+
+pub width-settles : Settles _ width-kinds.ps width-kinds.r width.Learnt
+width-settles κs a y z e f = settled
 
 pub cells-settles : Settles _ cells-kinds.ps cells-kinds.r cells.Learnt
 cells-settles κs a y z e f = settled
+
+pub table-length-settles : Settles _ table-length-kinds.ps table-length-kinds.r table-length.Learnt
+table-length-settles κs a y z e f = settled
+
+pub state-length-settles : Settles _ state-length-kinds.ps state-length-kinds.r state-length.Learnt
+state-length-settles κs a y z e f = settled
+
+pub demand-length-settles : Settles _ demand-length-kinds.ps demand-length-kinds.r demand-length.Learnt
+demand-length-settles κs a y z e f = settled
+
+pub table-space-settles : Settles _ table-space-kinds.ps table-space-kinds.r table-space.Learnt
+table-space-settles κs a y z e f p q = settled (p .empty) (q .empty)
+
+pub state-space-settles : Settles _ state-space-kinds.ps state-space-kinds.r state-space.Learnt
+state-space-settles κs a y z e f p q = settled (p .empty) (q .empty)
+
+pub demand-space-settles : Settles _ demand-space-kinds.ps demand-space-kinds.r demand-space.Learnt
+demand-space-settles κs a y z e f p q = settled (p .empty) (q .empty)
 
 pub row-at-settles : Settles _ row-at-kinds.ps row-at-kinds.r row-at.Learnt
 row-at-settles κs a y z e f = settled
@@ -68,16 +105,11 @@ on-demand-at-settles κs a y z e f = settled
 pub off-demand-at-settles : Settles _ off-demand-at-kinds.ps off-demand-at-kinds.r off-demand-at.Learnt
 off-demand-at-settles κs a y z e f = settled
 
-pub set-entry-queue-settles : SettlesLists _ set-entry-queue-kinds.ps set-entry-queue-kinds.r (List ℕ) (λ κs e. now (e .0)) set-entry-queue.Learnt
-set-entry-queue-settles κs a y z e f p q = (refl, settled p q)
+pub sheet-length-settles : Settles _ sheet-length-kinds.ps sheet-length-kinds.r sheet-length.Learnt
+sheet-length-settles κs a y z e f = settled
 
-pub set-count-settles : SettlesLists _ set-count-kinds.ps set-count-kinds.r (List ℕ) (λ κs e. now (e .0)) set-count.Learnt
-set-count-settles κs a y z e f p q = (refl, settled p q)
-
-pub set-queue-settles : SettlesLists _ set-queue-kinds.ps set-queue-kinds.r (List ℕ) (λ κs e. now (e .1 .0)) set-queue.Learnt
-set-queue-settles κs a y z e f p q = (refl, settled p q)
-
--- of a flow sheet
+pub sheet-space-settles : Settles _ sheet-space-kinds.ps sheet-space-kinds.r sheet-space.Learnt
+sheet-space-settles κs a y z e f p q = settled (p .empty) (q .empty)
 
 pub flow-in-settles : Settles _ flow-in-kinds.ps flow-in-kinds.r flow-in.Learnt
 flow-in-settles κs a y z e f = settled
@@ -91,8 +123,14 @@ on-flow-in-settles κs a y z e f = settled
 pub mode-in-settles : Settles _ mode-in-kinds.ps mode-in-kinds.r mode-in.Learnt
 mode-in-settles κs a y z e f = settled
 
+pub put-cell-settles : SettlesLists _ put-cell-kinds.ps put-cell-kinds.r (List ℕ) (λ κs e. now (e .0)) put-cell.Learnt
+put-cell-settles κs a y z e f p q = (refl, settled p q)
+
+pub put-demands-settles : SettlesLists _ put-demands-kinds.ps put-demands-kinds.r (List ℕ) (λ κs e. now (e .0)) put-demands.Learnt
+put-demands-settles κs a y z e f p q = (refl, settled p q)
+
+pub put-entry-settles : SettlesLists _ put-entry-kinds.ps put-entry-kinds.r (List ℕ) (λ κs e. now (e .0)) put-entry.Learnt
+put-entry-settles κs a y z e f p q = (refl, settled p q)
+
 pub put-flows-settles : SettlesLists _ put-flows-kinds.ps put-flows-kinds.r (List ℕ) (λ κs e. now (e .0)) put-flows.Learnt
 put-flows-settles κs a y z e f p q = (refl, settled p q)
-
-pub put-entry-flow-settles : SettlesLists _ put-entry-flow-kinds.ps put-entry-flow-kinds.r (List ℕ) (λ κs e. now (e .0)) put-entry-flow.Learnt
-put-entry-flow-settles κs a y z e f p q = (refl, settled p q)

@@ -1,15 +1,33 @@
--- Document 01, "Units and the cell row": where each number stands in a table, a state and a demand row. Only this file knows.
--- Cells are indexed from 0 here; their places, in refusals, count from 1.
-use Prim.Native.Nat.{ℕ, _+_, _*_, _/_, _%_}
-use mathlib.Core.List.{List}
+-- Document 01, "Units and the cell row": where each number stands in a table, a state and a demand row, and how long each list is. Only this
+-- file, and `Sheet` for the flow sheet, knows.
+use Prim.Native.Nat.{ℕ, _+_, _*_, _/_, _%_, _≤_}
+use mathlib.Core.List.{List, [], _∷_}
 use lib.Dec.{eqb}
 use lib.ListN.{length, getD}
 use Rattle.whole.specs.Search.{pick}
 use Rattle.layout.specs.declared.Row.{Row}
+use Rattle.layout.specs.declared.Cell.{Cell}
+use Rattle.layout.specs.declared.Demands.{Demands}
+use Rattle.layout.specs.Laid.{laid, stored}
 
--- N: nine numbers a row
+-- the numbers of a row
+abbrev pub WIDTH : ℕ
+WIDTH = 9
+
+-- N, the whole rows of a table
 abbrev pub cells : List ℕ → ℕ
-cells table = length table / 9
+cells table = length table / WIDTH
+
+abbrev pub tableLength : ℕ → ℕ
+tableLength n = WIDTH * n
+
+-- a table of n rows is no longer than a list can be
+abbrev pub Listed : ℕ → Type 0
+Listed n = tableLength n ≤ 18_446_744_073_709_551_615
+
+-- the most cells of a table
+abbrev pub MOST : ℕ
+MOST = 512
 
 abbrev pub rowAt : List ℕ → ℕ → Row
 rowAt table i =
@@ -42,6 +60,17 @@ countAt state i = getD state (1 + i) 0
 abbrev pub queueAt : ℕ → List ℕ → ℕ → ℕ
 queueAt n state i = getD state (1 + n + i) 0
 
+abbrev pub stateColumns : (ℕ → Cell) → List (ℕ → ℕ)
+stateColumns cell = (λ i. cell i .count) ∷ (λ i. cell i .queue) ∷ []
+
+-- the state with this entry queue and these cells
+unfoldable pub stateOf : ℕ → ℕ → (ℕ → Cell) → List ℕ
+stateOf n entry cell = laid n entry (stateColumns cell)
+
+-- the state with the cell of index i stored
+unfoldable pub withCell : ℕ → List ℕ → ℕ → Cell → List ℕ
+withCell n state i cell = stored n 1 i (cell .count ∷ cell .queue ∷ []) state
+
 -- a demand row of n cells: the entry demand, then the on-ramp demands d, then the off-ramp demands o
 abbrev pub demandLength : ℕ → ℕ
 demandLength n = 2 * n + 1
@@ -54,3 +83,14 @@ onDemandAt demand i = getD demand (1 + i) 0
 
 abbrev pub offDemandAt : ℕ → List ℕ → ℕ → ℕ
 offDemandAt n demand i = getD demand (1 + n + i) 0
+
+abbrev pub demandColumns : (ℕ → Demands) → List (ℕ → ℕ)
+demandColumns demands = (λ i. demands i .on) ∷ (λ i. demands i .off) ∷ []
+
+-- the demand row with this entry demand and these demands of the cells
+unfoldable pub demandOf : ℕ → ℕ → (ℕ → Demands) → List ℕ
+demandOf n entry demands = laid n entry (demandColumns demands)
+
+-- the demand row with the demands of the cell of index i stored
+unfoldable pub withDemands : ℕ → List ℕ → ℕ → Demands → List ℕ
+withDemands n demand i demands = stored n 1 i (demands .on ∷ demands .off ∷ []) demand

@@ -1,2 +1,4 @@
+pub mod Laid
 pub mod Layout
 pub mod Sheet
+pub mod Corridor

@@ -1,9 +1,10 @@
-// Where each number stands in a table, a state, a demand row and a flow sheet: no other code indexes these lists. The readers and
-// writers of single numbers ask that the index is within the list.
+// Where each number stands in a table, a state, a demand row and a flow sheet, and how long each list is: no other code indexes these lists
+// or works out a length. The readers and writers ask that the index is within the list.
 ghost use mathlib.Core.Path.{_≡_};
 ghost use Prim.Native.Nat.{_+_, _*_, _<_};
-ghost use lib.ListN.{length, set};
-ghost use Rattle.layout.specs.Layout.{cells, rowAt, rampAt, entryQueue, countAt, queueAt, entryDemand, onDemandAt, offDemandAt};
+ghost use lib.ListN.{length};
+ghost use Rattle.layout.specs.Laid.{Space, withEntry};
+ghost use Rattle.layout.specs.Layout.{WIDTH, Listed, MOST, cells, tableLength, rowAt, rampAt, stateLength, entryQueue, countAt, queueAt, withCell, demandLength, entryDemand, onDemandAt, offDemandAt, withDemands};
 
 pub mod sheet;
 
@@ -20,6 +21,18 @@ pub struct Row {
     pub b: u32,
 }
 
+// What a state holds of one cell: the count n and the on-ramp queue q.
+pub struct Cell {
+    pub count: u32,
+    pub queue: u32,
+}
+
+// What a demand row brings to one cell: the on-ramp demand d and the off-ramp demand o.
+pub struct Demands {
+    pub on: u32,
+    pub off: u32,
+}
+
 // What one cell does in a period: flow out f, off-ramp s, on-ramp r, and the mode.
 pub struct Flows {
     pub f: u32,
@@ -28,11 +41,61 @@ pub struct Flows {
     pub mode: u32,
 }
 
+// The numbers of a row.
+pub fn width() -> usize
+    ensures { λ r. ⌜ r ≡ WIDTH ⌝ }
+{
+    9
+}
+
 // N, the whole rows of a table.
 pub fn cells(table: &[u32]) -> usize
     ensures { λ r. ⌜ r ≡ cells (now (table .entry)) ⌝ }
 {
     table.len() / 9
+}
+
+// The lengths of the lists of n cells.
+
+pub fn table_length(n: usize) -> usize
+    requires { ⌜ Listed n ⌝ }
+    ensures { λ r. ⌜ r ≡ tableLength n ⌝ }
+{
+    9 * n
+}
+
+pub fn state_length(n: usize) -> usize
+    requires { ⌜ Listed n ⌝ }
+    ensures { λ r. ⌜ r ≡ stateLength n ⌝ }
+{
+    2 * n + 1
+}
+
+pub fn demand_length(n: usize) -> usize
+    requires { ⌜ Listed n ⌝ }
+    ensures { λ r. ⌜ r ≡ demandLength n ⌝ }
+{
+    2 * n + 1
+}
+
+// Room for the lists of 512 cells.
+
+pub fn table_space() -> [u32; 4_608]
+    ensures { λ r. ⌜ Space (tableLength MOST) r ⌝ }
+{
+    [0; 4_608]
+}
+
+pub fn state_space() -> [u32; 1_025]
+    ensures { λ r. ⌜ Space (stateLength MOST) r ⌝ }
+{
+    [0; 1_025]
+}
+
+pub fn demand_space() -> [u32; 1_025]
+    ensures { λ r. ⌜ Space (demandLength MOST) r ⌝ }
+{
+    [0; 1_025]
 }
 
 // Row i of a table.
@@ -83,25 +146,13 @@ pub fn queue_at(n: usize, state: &[u32], i: usize) -> u32
     state[1 + n + i]
 }
 
-pub fn set_entry_queue(state: &mut [u32], value: u32)
-    requires { ⌜ 0 < length (now state) ⌝ }
-    ensures { λ _. ⌜ now (state .exit) ≡ set (now (state .entry)) 0 value ⌝ }
+// Stores the cell of index i in a state.
+pub fn put_cell(state: &mut [u32], n: usize, i: usize, cell: Cell)
+    requires { ⌜ (i < n) × (length (now state) ≡ stateLength n) ⌝ }
+    ensures { λ _. ⌜ now (state .exit) ≡ withCell n (now (state .entry)) i cell ⌝ }
 {
-    state[0] = value;
-}
-
-pub fn set_count(state: &mut [u32], i: usize, value: u32)
-    requires { ⌜ 1 + i < length (now state) ⌝ }
-    ensures { λ _. ⌜ now (state .exit) ≡ set (now (state .entry)) (1 + i) value ⌝ }
-{
-    state[1 + i] = value;
-}
-
-pub fn set_queue(n: usize, state: &mut [u32], i: usize, value: u32)
-    requires { ⌜ 1 + n + i < length (now state) ⌝ }
-    ensures { λ _. ⌜ now (state .exit) ≡ set (now (state .entry)) (1 + n + i) value ⌝ }
-{
-    state[1 + n + i] = value;
+    state[1 + i] = cell.count;
+    state[1 + n + i] = cell.queue;
 }
 
 pub fn entry_demand(demand: &[u32]) -> u32
@@ -123,4 +174,21 @@ pub fn off_demand_at(n: usize, demand: &[u32], i: usize) -> u32
     ensures { λ r. ⌜ r ≡ offDemandAt n (now (demand .entry)) i ⌝ }
 {
     demand[1 + n + i]
+}
+
+// Stores the demands of the cell of index i in a demand row.
+pub fn put_demands(demand: &mut [u32], n: usize, i: usize, demands: Demands)
+    requires { ⌜ (i < n) × (length (now demand) ≡ demandLength n) ⌝ }
+    ensures { λ _. ⌜ now (demand .exit) ≡ withDemands n (now (demand .entry)) i demands ⌝ }
+{
+    demand[1 + i] = demands.on;
+    demand[1 + n + i] = demands.off;
+}
+
+// Stores the entry's number: Q in a state, the entry demand in a demand row, the entry flow in a sheet.
+pub fn put_entry(list: &mut [u32], value: u32)
+    requires { ⌜ 0 < length (now list) ⌝ }
+    ensures { λ _. ⌜ now (list .exit) ≡ withEntry (now (list .entry)) value ⌝ }
+{
+    list[0] = value;
 }

@@ -1,3 +1,5 @@
 pub mod Cell
 pub mod Sharing
+pub mod Updated
 pub mod Period
+pub mod Private

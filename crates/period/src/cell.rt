@@ -1,10 +1,9 @@
-// One cell in one period, by the kinds of its ramps and without a loop: numbers of 32 bits in and out, 64 between.
+// One cell in one period, by the kind of its off-ramp and without a loop: numbers of 32 bits in and out, 64 between.
 ghost use mathlib.Core.Path.{_≡_};
 ghost use Prim.Native.Nat.{_≤_, _<_};
-ghost use lib.Dec.{ltb};
-ghost use Rattle.whole.specs.Search.{pick};
-ghost use Rattle.period.specs.Cell.{D, R, M, leaving, offFlow, onFlow, flowsUpTo};
-use layout::Flows;
+ghost use Rattle.period.specs.Cell.{D, M, leaving, offFlow, modeOf};
+ghost use Rattle.period.specs.Private.{sentOf};
+use crate::Sent;
 use layout::Row;
 use whole::least;
 use whole::share;
@@ -14,14 +13,6 @@ fn sending(row: Row, n: u32) -> u64
     ensures { λ r. ⌜ r ≡ D row n ⌝ }
 {
     share(row.v, n)
-}
-
-// R.
-pub(crate) fn room(row: Row, n: u32) -> u64
-    requires { ⌜ n ≤ row .jam ⌝ }
-    ensures { λ r. ⌜ r ≡ R row n ⌝ }
-{
-    share(row.w, row.jam - n)
 }
 
 // M.
@@ -39,8 +30,16 @@ fn sent_on(row: Row, n: u32, o: u32) -> u64
     d * ((65_536 - row.b) as u64) / 65_536
 }
 
+// M, which is at most n.
+pub(crate) fn would_send(row: Row, n: u32, o: u32) -> u32
+    requires { ⌜ (row .v ≤ 65_536) × (row .b < 65_536) ⌝ }
+    ensures { λ r. ⌜ r ≡ M row n o ⌝ }
+{
+    sent_on(row, n, o) as u32
+}
+
 // What would leave by the off-ramp, of a flow f.
-fn leaving(row: Row, n: u32, o: u32, f: u64) -> u64
+fn leaving(row: Row, n: u32, o: u32, f: u32) -> u64
     requires { ⌜ (row .b < 65_536) × (f ≤ n) ⌝ }
     ensures { λ r. ⌜ r ≡ leaving row n o f ⌝ }
 {
@@ -50,52 +49,33 @@ fn leaving(row: Row, n: u32, o: u32, f: u64) -> u64
     if row.b == 0 {
         return least(o as u64, sending(row, n));
     }
-    f * (row.b as u64) / ((65_536 - row.b) as u64)
+    (f as u64) * (row.b as u64) / ((65_536 - row.b) as u64)
 }
 
 // s: never more than f leaves in the cell.
-fn off_flow(row: Row, n: u32, o: u32, f: u64) -> u64
+fn off_flow(row: Row, n: u32, o: u32, f: u32) -> u64
     requires { ⌜ (row .b < 65_536) × (f ≤ n) ⌝ }
     ensures { λ r. ⌜ r ≡ offFlow row n o f ⌝ }
 {
-    least(leaving(row, n, o, f), n as u64 - f)
+    least(leaving(row, n, o, f), (n - f) as u64)
 }
 
-// r. Most cells have no on-ramp, and with c = 0 nothing need be worked out.
-fn on_flow(row: Row, n: u32, q: u32, d: u32) -> u64
-    requires { ⌜ n ≤ row .jam ⌝ }
-    ensures { λ r. ⌜ r ≡ onFlow row n q d ⌝ }
+// 0 where the cell would send less than its capacity and the node downstream is clear, else 1.
+fn mode(m: u32, capacity: u32, clear: bool) -> u32
+    ensures { λ r. ⌜ r ≡ modeOf m capacity clear ⌝ }
 {
-    if row.c == 0 {
-        return 0;
-    }
-    least(
-        least(q as u64 + d as u64, row.c as u64),
-        share(row.x, row.jam - n),
-    )
+    if (m < capacity) & clear { 0 } else { 1 }
 }
 
-// 0 where the cell would send less than its limit, else 1.
-fn mode(m: u64, limit: u64) -> u32
-    ensures { λ r. ⌜ r ≡ pick (ltb m limit) 0 1 ⌝ }
+// What a cell sends that would send m, where f passes at the node downstream of it.
+pub(crate) fn sent(row: Row, n: u32, o: u32, m: u32, capacity: u32, f: u32, clear: bool) -> Sent
+    requires { ⌜ (row .b < 65_536) × (f ≤ n) × (m ≡ M row n o) ⌝ }
+    ensures { λ r. ⌜ r ≡ sentOf row n o capacity f clear ⌝ }
 {
-    if m < limit { 0 } else { 1 }
-}
-
-// Everything that a cell does, where the cell downstream has the given room.
-pub(crate) fn cell_flows(row: Row, n: u32, q: u32, d: u32, o: u32, room: u64) -> Flows
-    requires { ⌜ (row .v ≤ 65_536) × (row .b < 65_536) × (n ≤ row .jam) ⌝ }
-    ensures { λ r. ⌜ r ≡ flowsUpTo row n q d o room ⌝ }
-{
-    let m = sent_on(row, n, o);
-    let limit = least(row.capacity as u64, room);
-    let f = least(m, limit);
     let s = off_flow(row, n, o, f);
-    let r = on_flow(row, n, q, d);
-    Flows {
-        f: f as u32,
+    Sent {
+        f,
         s: s as u32,
-        r: r as u32,
-        mode: mode(m, limit),
+        mode: mode(m, capacity, clear),
     }
 }

@@ -1,11 +1,11 @@
 -- The laws of a list that is built from an index function. Assumes nothing.
 use Prim.Native.Nat.{ℕ, zero, suc, _+_, _≤_, _<_}
 use mathlib.Core.Path.{_≡_, refl, ap, ap₂, sym, _∙_}
-use mathlib.Core.List.{List, _++_}
+use mathlib.Core.List.{List, _∷_, _++_}
 use native.Mathlib.Nat.{le-of-suc-le-suc, not-suc-le-zero}
-use lib.ListN.{length, getD, take, drop, take-append-drop, List·getD-append}
+use lib.ListN.{length, getD, take, drop, replicate, take-append-drop, List·getD-append}
 use lib.Seq.{ext-getD, getD-append-add, getD-take, length-take-le}
-use Rattle.whole.specs.Lists.{build}
+use Rattle.whole.specs.Lists.{build, zeros}
 
 pub build-length {ℓ} : {A : Type ℓ} (n : ℕ) (f : ℕ → A) → length (build n f) ≡ n
 build-length zero f = refl
@@ -40,3 +40,12 @@ build-then d l n f rest h each after =
     ∙ ap₂ (λ a b. a ++ b)
     (is-build d (take n l) n f (length-take-le n l h) λ i below. getD-take n l i d below ∙ each i below)
     after
+
+pub are-zeros : (n : ℕ) → replicate n 0 ≡ zeros n
+unfolding zeros
+are-zeros zero = refl
+are-zeros (suc n) = ap (λ rest. 0 ∷ rest) (are-zeros n)
+
+pub zeros-length : (n : ℕ) → length (zeros n) ≡ n
+unfolding zeros
+zeros-length n = build-length n (λ _. 0)

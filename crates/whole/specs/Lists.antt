@@ -6,3 +6,7 @@ use mathlib.Core.List.{List, [], _∷_}
 abbrev pub build {ℓ} : {A : Type ℓ} → ℕ → (ℕ → A) → List A
 build zero f = []
 build (suc n) f = f zero ∷ build n (λ i. f (suc i))
+
+-- n zeros
+unfoldable pub zeros : ℕ → List ℕ
+zeros n = build n (λ _. 0)

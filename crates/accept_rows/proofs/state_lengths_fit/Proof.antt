@@ -5,7 +5,7 @@ use Rattle.accept_rows.proofs.state_lengths_fit.Statement.{statement}
 use Rattle.accept_rows.proofs.state_lengths_fit.Tie as tie
 
 returns : tie.Need-returns
-returns c = rw (c .before .table-length-fits .ensures, c .cells .ensures) refl
+returns c = rw (c .before .before .table-length-fits .ensures, c .state-length .ensures, c .before .cells .ensures) refl
 
 pub state-lengths-fit-spec : {M : Type 1} → statement M
 state-lengths-fit-spec =
@@ -13,6 +13,5 @@ state-lengths-fit-spec =
     (tie.spec
     (λ c κs. search needs)
     (λ c κs. search needs)
-    (λ c. search needs)
-    (λ c. search needs)
+    (λ c κs. search needs)
     returns)

@@ -7,11 +7,12 @@ use Rattle.whole.proofs.Search.{Searching, begins, goes-on, found, not-found}
 use Rattle.layout.specs.Layout.{cells}
 use Rattle.accept_rows.specs.Acceptance.{demandInRange, queuesHold}
 use Rattle.accept_rows.proofs.checks.demand_in_range.Statement.{statement}
+use Rattle.layout.specs.Corridor.{corridorOf}
 use Rattle.accept_rows.proofs.checks.demand_in_range.Tie as tie
 
 abbrev Inv-loop : tie.InvT-loop
 Inv-loop table state demand queues n i₀ i =
-    Searching (cells table + 1) (λ p. (not queues || queuesHold table state demand .test p) && demandInRange table demand .test p) n i
+    Searching (cells table + 1) (λ p. (not queues || queuesHold (corridorOf table state) demand .test p) && demandInRange (corridorOf table state) demand .test p) n i
 
 abbrev μ-loop : tie.MeasureT-loop
 μ-loop table state demand queues n i₀ i = n - i

@@ -5,10 +5,11 @@ use borrow.Author.Needs.{needs}
 use Rattle.whole.proofs.Search.{Searching, begins, goes-on, found, not-found}
 use Rattle.accept_rows.specs.Acceptance.{stateInRange}
 use Rattle.accept_rows.proofs.checks.state_in_range.Statement.{statement}
+use Rattle.layout.specs.Corridor.{corridorOf}
 use Rattle.accept_rows.proofs.checks.state_in_range.Tie as tie
 
 abbrev Inv-loop : tie.InvT-loop
-Inv-loop table state n i₀ i = Searching (stateInRange table state .places) (stateInRange table state .test) n i
+Inv-loop table state n i₀ i = Searching (stateInRange (corridorOf table state) .places) (stateInRange (corridorOf table state) .test) n i
 
 abbrev μ-loop : tie.MeasureT-loop
 μ-loop table state n i₀ i = n - i

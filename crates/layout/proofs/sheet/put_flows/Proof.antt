@@ -39,6 +39,7 @@ put-flows-spec =
     (λ c. search needs)
     (λ c. search needs)
     (λ c. search needs)
+    (λ c. search needs)
     slice-write-sheet-4
     (λ c. search needs)
     returns)

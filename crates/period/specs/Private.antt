@@ -1,0 +1,39 @@
+-- Cited by private contracts and proofs alone: no public promise rests on this file.
+-- What the functions of a period ask of each other.
+use Prim.Native.Nat.{ℕ, suc, _+_, _≤_, _<_}
+use mathlib.Core.Path.{_≡_}
+use mathlib.Core.Bool.{Bool}
+use mathlib.Core.List.{List}
+use lib.ListN.{length}
+use Rattle.layout.specs.declared.Row.{Row}
+use Rattle.layout.specs.Layout.{stateLength, entryQueue, countAt, queueAt, demandLength, entryDemand, onDemandAt}
+use Rattle.layout.specs.Sheet.{sheetLength, flowIn, offFlowIn, onFlowIn}
+use Rattle.layout.specs.Corridor.{Corridor, cellsOf, rowOf, countOf}
+use Rattle.period.specs.declared.Sent.{Sent}
+use Rattle.period.specs.Cell.{M, offFlow, modeOf}
+
+-- what a cell of capacity F sends where f passes at the node downstream of it
+unfoldable pub sentOf : Row → ℕ → ℕ → ℕ → ℕ → Bool → Sent
+sentOf row n o capacity f clear = record { f = f; s = offFlow row n o f; mode = modeOf (M row n o) capacity clear }
+
+-- what the work on the cell of index i, one of n, asks of the corridor and the demand row
+pub record Workable (n : ℕ) (c : Corridor) (demand : List ℕ) (i : ℕ) : Type 0 where
+  pub all : n ≡ cellsOf c
+  pub inside : i < n
+  pub state-length : length (c .state) ≡ stateLength n
+  pub demand-length : length demand ≡ demandLength n
+  pub v : rowOf c i .v ≤ 65_536
+  pub b : rowOf c i .b < 65_536
+  pub count : countOf c i ≤ rowOf c i .jam
+
+-- the lists from which a state is brought up to date: nothing that is added or taken away wraps
+pub record Updatable (n : ℕ) (state demand sheet : List ℕ) : Type 0 where
+  pub state-length : length state ≡ stateLength n
+  pub demand-length : length demand ≡ demandLength n
+  pub sheet-length : length sheet ≡ sheetLength n
+  pub comes : (i : ℕ) → i < n → countAt state i + flowIn sheet i + onFlowIn n sheet i ≤ 4_000_000
+  pub leaves : (i : ℕ) → i < n → flowIn sheet (suc i) + offFlowIn n sheet i ≤ countAt state i
+  pub waits : (i : ℕ) → i < n → queueAt n state i + onDemandAt demand i ≤ 1_000_000_000
+  pub enters : (i : ℕ) → i < n → onFlowIn n sheet i ≤ queueAt n state i + onDemandAt demand i
+  pub entry-waits : entryQueue state + entryDemand demand ≤ 1_000_000_000
+  pub entry-enters : flowIn sheet 0 ≤ entryQueue state + entryDemand demand
