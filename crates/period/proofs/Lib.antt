@@ -1,0 +1,12 @@
+pub mod Fair
+pub mod Facts
+pub mod Nodes
+pub mod Reading
+pub mod Laws
+pub mod Filling
+pub mod Updating
+pub mod Moving
+pub mod Done
+pub mod Rows
+pub mod Again
+pub mod Settled

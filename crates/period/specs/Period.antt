@@ -27,7 +27,7 @@ capacityNow c i = rowOf c i .capacity
 abbrev pub limitNow : Corridor → ℕ → ℕ
 limitNow c i = rowOf c i .c
 
-module _ (way : Sharing) (c : Corridor) (demand : List ℕ) where
+module _ (c : Corridor) (demand : List ℕ) where
   -- 2. M of a cell
   abbrev pub sentAt : ℕ → ℕ
   sentAt i = M (rowOf c i) (countOf c i) (offDemandAt (cellsOf c) demand i)
@@ -40,14 +40,15 @@ module _ (way : Sharing) (c : Corridor) (demand : List ℕ) where
   abbrev pub rampOfferAt : ℕ → ℕ
   rampOfferAt i = min (queueOf c i + onDemandAt demand i) (limitNow c i)
 
+module _ (way : Sharing) (c : Corridor) (demand : List ℕ) where
   -- what passes at the node upstream of the cell of index i, from the position i and from its on-ramp
   unfoldable pub nodeAt : ℕ → Passed
-  nodeAt i = way (rowOf c i) (countOf c i) (offerAt i) (rampOfferAt i)
+  nodeAt i = way (rowOf c i) (countOf c i) (offerAt c demand i) (rampOfferAt c demand i)
 
   -- 3. the flow out of a position is what passes at the node downstream of it; the last cell's offer passes whole. The flow out of position 0
   -- is the entry flow, and f of the cell of index i is the flow out of position i + 1
   unfoldable pub flowAt : ℕ → ℕ
-  flowAt p = pick (ltb p (cellsOf c)) (nodeAt p .main) (offerAt p)
+  flowAt p = pick (ltb p (cellsOf c)) (nodeAt p .main) (offerAt c demand p)
 
   -- 4. s
   unfoldable pub offFlowAt : ℕ → ℕ
@@ -59,7 +60,7 @@ module _ (way : Sharing) (c : Corridor) (demand : List ℕ) where
 
   -- 7. the mode; past the last cell all is clear
   unfoldable pub modeAt : ℕ → ℕ
-  modeAt i = modeOf (sentAt i) (capacityNow c i) (pick (ltb (suc i) (cellsOf c)) (nodeAt (suc i) .clear) true)
+  modeAt i = modeOf (sentAt c demand i) (capacityNow c i) (pick (ltb (suc i) (cellsOf c)) (nodeAt (suc i) .clear) true)
 
   -- what a cell does: f, s, r and the mode
   abbrev pub flowsAt : ℕ → Flows

@@ -11,10 +11,16 @@ use Rattle.layout.specs.Sheet.{sheetLength, flowIn, offFlowIn, onFlowIn}
 use Rattle.layout.specs.Corridor.{Corridor, cellsOf, rowOf, countOf}
 use Rattle.period.specs.declared.Sent.{Sent}
 use Rattle.period.specs.Cell.{M, offFlow, modeOf}
+use Rattle.period.specs.Sharing.{Sharing}
+use Rattle.period.specs.Period.{flowAt, offFlowAt, modeAt}
 
 -- what a cell of capacity F sends where f passes at the node downstream of it
 unfoldable pub sentOf : Row → ℕ → ℕ → ℕ → ℕ → Bool → Sent
 sentOf row n o capacity f clear = record { f = f; s = offFlow row n o f; mode = modeOf (M row n o) capacity clear }
+
+-- what the cell of index i sends in a period
+abbrev pub ownAt : Sharing → Corridor → List ℕ → ℕ → Sent
+ownAt way c demand i = record { f = flowAt way c demand (suc i); s = offFlowAt way c demand i; mode = modeAt way c demand i }
 
 -- what the work on the cell of index i, one of n, asks of the corridor and the demand row
 pub record Workable (n : ℕ) (c : Corridor) (demand : List ℕ) (i : ℕ) : Type 0 where
@@ -26,14 +32,22 @@ pub record Workable (n : ℕ) (c : Corridor) (demand : List ℕ) (i : ℕ) : Typ
   pub b : rowOf c i .b < 65_536
   pub count : countOf c i ≤ rowOf c i .jam
 
--- the lists from which a state is brought up to date: nothing that is added or taken away wraps
+-- what bringing the cell of index i up to date asks of the lists: nothing that is added or taken away wraps
+pub record CellUpdatable (n : ℕ) (state demand sheet : List ℕ) (i : ℕ) : Type 0 where
+  pub inside : i < n
+  pub state-length : length state ≡ stateLength n
+  pub demand-length : length demand ≡ demandLength n
+  pub sheet-length : length sheet ≡ sheetLength n
+  pub comes : countAt state i + flowIn sheet i + onFlowIn n sheet i ≤ 4_000_000
+  pub leaves : flowIn sheet (i + 1) + offFlowIn n sheet i ≤ countAt state i
+  pub waits : queueAt n state i + onDemandAt demand i ≤ 1_000_000_000
+  pub enters : onFlowIn n sheet i ≤ queueAt n state i + onDemandAt demand i
+
+-- the same of all cells and of the entry
 pub record Updatable (n : ℕ) (state demand sheet : List ℕ) : Type 0 where
   pub state-length : length state ≡ stateLength n
   pub demand-length : length demand ≡ demandLength n
   pub sheet-length : length sheet ≡ sheetLength n
-  pub comes : (i : ℕ) → i < n → countAt state i + flowIn sheet i + onFlowIn n sheet i ≤ 4_000_000
-  pub leaves : (i : ℕ) → i < n → flowIn sheet (suc i) + offFlowIn n sheet i ≤ countAt state i
-  pub waits : (i : ℕ) → i < n → queueAt n state i + onDemandAt demand i ≤ 1_000_000_000
-  pub enters : (i : ℕ) → i < n → onFlowIn n sheet i ≤ queueAt n state i + onDemandAt demand i
-  pub entry-waits : entryQueue state + entryDemand demand ≤ 1_000_000_000
-  pub entry-enters : flowIn sheet 0 ≤ entryQueue state + entryDemand demand
+  pub each : (i : ℕ) → i < n → CellUpdatable n state demand sheet i
+  pub waits : entryQueue state + entryDemand demand ≤ 1_000_000_000
+  pub enters : flowIn sheet 0 ≤ entryQueue state + entryDemand demand

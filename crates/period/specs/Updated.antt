@@ -1,6 +1,6 @@
 -- Document 01, "One period", step 6: the state after a period of n cells, from the old state, the demand row and the sheet, whatever way of
 -- sharing wrote the sheet.
-use Prim.Native.Nat.{ℕ, suc, _+_, _-_}
+use Prim.Native.Nat.{ℕ, _+_, _-_}
 use mathlib.Core.List.{List}
 use Rattle.layout.specs.declared.Cell.{Cell}
 use Rattle.layout.specs.Layout.{entryQueue, countAt, queueAt, stateOf, entryDemand, onDemandAt}
@@ -15,7 +15,7 @@ module _ (n : ℕ) (state demand sheet : List ℕ) where
   abbrev pub cellAfter : ℕ → Cell
   cellAfter i =
       record {
-        count = countAt state i + flowIn sheet i + onFlowIn n sheet i - (flowIn sheet (suc i) + offFlowIn n sheet i);
+        count = countAt state i + flowIn sheet i + onFlowIn n sheet i - (flowIn sheet (i + 1) + offFlowIn n sheet i);
         queue = queueAt n state i + onDemandAt demand i - onFlowIn n sheet i;
       }
 

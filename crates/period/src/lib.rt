@@ -30,3 +30,28 @@ pub struct Sent {
     pub s: u32,
     pub mode: u32,
 }
+
+// One period: numbers 1 to 7. On a refusal every list stays as it came.
+pub fn period(table: &[u32], state: &mut [u32], demand: &[u32], sheet: &mut [u32]) -> Answer
+    ensures { λ r. ⌜ PeriodDone asymmetric (corridorOf (now (table .entry)) (now (state .entry))) (now (demand .entry)) (now (sheet .entry)) r (now (state .exit)) (now (sheet .exit)) ⌝ }
+{
+    if sheet.len() != sheet_length(cells(table)) {
+        return Answer::Refused(Refusal::Length);
+    }
+    let found = accept_rows::accept_row(table, state, demand);
+    if let Answer::Refused(refusal) = found {
+        return Answer::Refused(refusal);
+    }
+    run_accepted(table, state, demand, sheet);
+    Answer::Accepted
+}
+
+// An accepted period, for those who have made the checks already: every flow from the state as it was, then the state.
+pub fn run_accepted(table: &[u32], state: &mut [u32], demand: &[u32], sheet: &mut [u32])
+    requires { ⌜ RowAccepted (corridorOf (now table) (now state)) (now demand) ⌝ }
+    requires { ⌜ length (now sheet) ≡ sheetLength (cells (now table)) ⌝ }
+    ensures { λ _. ⌜ RowDone asymmetric (corridorOf (now (table .entry)) (now (state .entry))) (now (demand .entry)) (now (state .exit)) (now (sheet .exit)) ⌝ }
+{
+    passes::flows(table, state, demand, sheet);
+    passes::bring_up_to_date(cells(table), state, demand, sheet);
+}

@@ -1,15 +1,15 @@
 // The two passes of a period over the cells, each from the last cell up the road.
 ghost use mathlib.Core.Path.{_≡_};
-ghost use Prim.Native.Nat.{_+_, _-_, _≤_};
-ghost use mathlib.Core.Bool.{Bool};
+ghost use Prim.Native.Nat.{_+_, _-_, _≤_, _<_, min};
 ghost use lib.ListN.{length};
-ghost use Rattle.layout.specs.Layout.{cells, offDemandAt};
-ghost use Rattle.layout.specs.Sheet.{sheetLength};
+ghost use Rattle.layout.specs.Laid.{withEntry};
+ghost use Rattle.layout.specs.Layout.{cells, offDemandAt, entryQueue, entryDemand};
+ghost use Rattle.layout.specs.Sheet.{sheetLength, withFlows};
 ghost use Rattle.layout.specs.Corridor.{corridorOf, rowOf, countOf};
 ghost use Rattle.period.specs.Sharing.{asymmetric};
-ghost use Rattle.period.specs.Updated.{updated};
-ghost use Rattle.period.specs.Period.{RowAccepted, capacityNow, limitNow, sentAt, rampOfferAt, sheetOf};
-ghost use Rattle.period.specs.Private.{sentOf, Workable, Updatable};
+ghost use Rattle.period.specs.Updated.{cellAfter, updated};
+ghost use Rattle.period.specs.Period.{RowAccepted, capacityNow, limitNow, sentAt, rampOfferAt, flowAt, flowsAt, sheetOf};
+ghost use Rattle.period.specs.Private.{sentOf, ownAt, Workable, CellUpdatable, Updatable};
 use crate::Passed;
 use crate::Sent;
 use crate::cell::sent;
@@ -18,7 +18,6 @@ use crate::node::asymmetric;
 use crate::node::ramp_offer;
 use layout::sheet::*;
 use layout::*;
-use whole::least;
 
 // F of the cell of index i, as it holds now.
 fn capacity_now(table: &[u32], state: &[u32], i: usize) -> u32
@@ -39,7 +38,7 @@ fn limit_now(table: &[u32], state: &[u32], i: usize) -> u32
 // M of the cell of index i.
 fn sent_at(n: usize, table: &[u32], state: &[u32], demand: &[u32], i: usize) -> u32
     requires { ⌜ Workable n (corridorOf (now table) (now state)) (now demand) i ⌝ }
-    ensures { λ r. ⌜ r ≡ sentAt asymmetric (corridorOf (now (table .entry)) (now (state .entry))) (now (demand .entry)) i ⌝ }
+    ensures { λ r. ⌜ r ≡ sentAt (corridorOf (now (table .entry)) (now (state .entry))) (now (demand .entry)) i ⌝ }
 {
     would_send(
         row_at(table, i),
@@ -51,7 +50,7 @@ fn sent_at(n: usize, table: &[u32], state: &[u32], demand: &[u32], i: usize) -> 
 // What passes at the node upstream of the cell of index i, where the mainline offers a.
 fn node_at(n: usize, table: &[u32], state: &[u32], demand: &[u32], i: usize, a: u32) -> Passed
     requires { ⌜ Workable n (corridorOf (now table) (now state)) (now demand) i ⌝ }
-    ensures { λ r. ⌜ r ≡ asymmetric (rowOf (corridorOf (now (table .entry)) (now (state .entry))) i) (countOf (corridorOf (now (table .entry)) (now (state .entry))) i) a (rampOfferAt asymmetric (corridorOf (now (table .entry)) (now (state .entry))) (now (demand .entry)) i) ⌝ }
+    ensures { λ r. ⌜ r ≡ asymmetric (rowOf (corridorOf (now (table .entry)) (now (state .entry))) i) (countOf (corridorOf (now (table .entry)) (now (state .entry))) i) a (rampOfferAt (corridorOf (now (table .entry)) (now (state .entry))) (now (demand .entry)) i) ⌝ }
 {
     let e = ramp_offer(
         limit_now(table, state, i),
@@ -59,4 +58,165 @@ fn node_at(n: usize, table: &[u32], state: &[u32], demand: &[u32], i: usize, a: 
         on_demand_at(demand, i),
     );
     asymmetric(row_at(table, i), count_at(state, i), a, e)
+}
+
+// What a cell offers onward.
+fn offer(m: u32, capacity: u32) -> u32
+    ensures { λ r. ⌜ r ≡ min m capacity ⌝ }
+{
+    if m <= capacity { m } else { capacity }
+}
+
+// What the cell of index i sends, which would send m, where f passes at the node downstream of it.
+fn own_at(
+    n: usize,
+    table: &[u32],
+    state: &[u32],
+    demand: &[u32],
+    i: usize,
+    m: u32,
+    f: u32,
+    clear: bool,
+) -> Sent
+    requires { ⌜ Workable n (corridorOf (now table) (now state)) (now demand) i ⌝ }
+    requires { ⌜ (m ≡ sentAt (corridorOf (now table) (now state)) (now demand) i) × (f ≤ m) ⌝ }
+    ensures { λ r. ⌜ r ≡ sentOf (rowOf (corridorOf (now (table .entry)) (now (state .entry))) i) (countOf (corridorOf (now (table .entry)) (now (state .entry))) i) (offDemandAt n (now (demand .entry)) i) (capacityNow (corridorOf (now (table .entry)) (now (state .entry))) i) f clear ⌝ }
+{
+    sent(
+        row_at(table, i),
+        count_at(state, i),
+        off_demand_at(n, demand, i),
+        m,
+        capacity_now(table, state, i),
+        f,
+        clear,
+    )
+}
+
+// The last cell: its offer passes whole.
+fn last_own(n: usize, table: &[u32], state: &[u32], demand: &[u32]) -> Sent
+    requires { ⌜ Workable n (corridorOf (now table) (now state)) (now demand) (n - 1) ⌝ }
+    ensures { λ r. ⌜ r ≡ ownAt asymmetric (corridorOf (now (table .entry)) (now (state .entry))) (now (demand .entry)) (n - 1) ⌝ }
+{
+    let m = sent_at(n, table, state, demand, n - 1);
+    let a = offer(m, capacity_now(table, state, n - 1));
+    own_at(n, table, state, demand, n - 1, m, a, true)
+}
+
+// The node between the cells of index i - 1 and i, of which the latter sends its own: what that cell does is stored, and the answer is what
+// the cell upstream sends.
+fn pass_node(
+    n: usize,
+    table: &[u32],
+    state: &[u32],
+    demand: &[u32],
+    sheet: &mut [u32],
+    i: usize,
+    own: Sent,
+) -> Sent
+    requires { ⌜ (0 < i) × (length (now sheet) ≡ sheetLength n) ⌝ }
+    requires { ⌜ Workable n (corridorOf (now table) (now state)) (now demand) (i - 1) ⌝ }
+    requires { ⌜ Workable n (corridorOf (now table) (now state)) (now demand) i ⌝ }
+    requires { ⌜ own ≡ ownAt asymmetric (corridorOf (now table) (now state)) (now demand) i ⌝ }
+    ensures sends { λ r. ⌜ r ≡ ownAt asymmetric (corridorOf (now (table .entry)) (now (state .entry))) (now (demand .entry)) (i - 1) ⌝ }
+    ensures stores { λ _. ⌜ now (sheet .exit) ≡ withFlows n (now (sheet .entry)) i (flowsAt asymmetric (corridorOf (now (table .entry)) (now (state .entry))) (now (demand .entry)) i) ⌝ }
+{
+    let m = sent_at(n, table, state, demand, i - 1);
+    let a = offer(m, capacity_now(table, state, i - 1));
+    let passed = node_at(n, table, state, demand, i, a);
+    put_flows(
+        sheet,
+        n,
+        i,
+        Flows {
+            f: own.f,
+            s: own.s,
+            r: passed.ramp,
+            mode: own.mode,
+        },
+    );
+    own_at(
+        n,
+        table,
+        state,
+        demand,
+        i - 1,
+        m,
+        passed.main,
+        passed.clear,
+    )
+}
+
+// The node between the entry and the first cell, which sends its own: what that cell does is stored, and the entry flow.
+fn pass_entry(
+    n: usize,
+    table: &[u32],
+    state: &[u32],
+    demand: &[u32],
+    sheet: &mut [u32],
+    own: Sent,
+)
+    requires { ⌜ Workable n (corridorOf (now table) (now state)) (now demand) 0 ⌝ }
+    requires { ⌜ (entryQueue (now state) + entryDemand (now demand) ≤ 1_000_000_000) × (length (now sheet) ≡ sheetLength n) ⌝ }
+    requires { ⌜ own ≡ ownAt asymmetric (corridorOf (now table) (now state)) (now demand) 0 ⌝ }
+    ensures { λ _. ⌜ now (sheet .exit) ≡ withEntry (withFlows n (now (sheet .entry)) 0 (flowsAt asymmetric (corridorOf (now (table .entry)) (now (state .entry))) (now (demand .entry)) 0)) (flowAt asymmetric (corridorOf (now (table .entry)) (now (state .entry))) (now (demand .entry)) 0) ⌝ }
+{
+    let a = entry_queue(state) + entry_demand(demand);
+    let passed = node_at(n, table, state, demand, 0, a);
+    put_flows(
+        sheet,
+        n,
+        0,
+        Flows {
+            f: own.f,
+            s: own.s,
+            r: passed.ramp,
+            mode: own.mode,
+        },
+    );
+    put_entry(sheet, passed.main);
+}
+
+// Every flow, from the old state, into the sheet, node by node.
+pub(crate) fn flows(table: &[u32], state: &[u32], demand: &[u32], sheet: &mut [u32])
+    requires { ⌜ RowAccepted (corridorOf (now table) (now state)) (now demand) ⌝ }
+    requires { ⌜ length (now sheet) ≡ sheetLength (cells (now table)) ⌝ }
+    ensures { λ _. ⌜ now (sheet .exit) ≡ sheetOf asymmetric (corridorOf (now (table .entry)) (now (state .entry))) (now (demand .entry)) ⌝ }
+{
+    let n = cells(table);
+    let mut own = last_own(n, table, state, demand);
+    let mut i = n - 1;
+    while 0 < i {
+        own = pass_node(n, table, state, demand, sheet, i, own);
+        i -= 1;
+    }
+    pass_entry(n, table, state, demand, sheet, own);
+}
+
+// A cell after the period.
+fn cell_after(n: usize, state: &[u32], demand: &[u32], sheet: &[u32], i: usize) -> Cell
+    requires { ⌜ CellUpdatable n (now state) (now demand) (now sheet) i ⌝ }
+    ensures { λ r. ⌜ r ≡ cellAfter n (now (state .entry)) (now (demand .entry)) (now (sheet .entry)) i ⌝ }
+{
+    let r = on_flow_in(n, sheet, i);
+    let comes = count_at(state, i) + flow_in(sheet, i) + r;
+    Cell {
+        count: comes - (flow_in(sheet, i + 1) + off_flow_in(n, sheet, i)),
+        queue: queue_at(n, state, i) + on_demand_at(demand, i) - r,
+    }
+}
+
+// The state, brought up to date from the demand row and the sheet, whoever wrote that.
+pub(crate) fn bring_up_to_date(n: usize, state: &mut [u32], demand: &[u32], sheet: &[u32])
+    requires { ⌜ Updatable n (now state) (now demand) (now sheet) ⌝ }
+    ensures { λ _. ⌜ now (state .exit) ≡ updated n (now (state .entry)) (now (demand .entry)) (now (sheet .entry)) ⌝ }
+{
+    let mut i = n;
+    while 0 < i {
+        i -= 1;
+        let cell = cell_after(n, state, demand, sheet, i);
+        put_cell(state, n, i, cell);
+    }
+    let entry = entry_queue(state) + entry_demand(demand) - flow_in(sheet, 0);
+    put_entry(state, entry);
 }

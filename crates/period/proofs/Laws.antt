@@ -1,0 +1,67 @@
+-- What demand 3 needs of a period, for any fair way of sharing room, from an accepted table, state and demand row. Assumes nothing.
+use Prim.Native.Nat.{ℕ, suc, _+_, _-_, _≤_, _<_}
+use mathlib.Core.Path.{_≡_}
+use mathlib.Core.Bool.{Bool, true, false}
+use mathlib.Core.List.{List}
+use native.Mathlib.Omega.{arith}
+use lib.Dec.{ltb}
+use Rattle.whole.specs.Search.{pick}
+use Rattle.layout.specs.Layout.{entryDemand, onDemandAt, offDemandAt}
+use Rattle.layout.specs.Corridor.{Corridor, cellsOf, rowOf, entryQueueOf, countOf, queueOf}
+use Rattle.accept_tables.proofs.Accepted.{TableFits}
+use Rattle.accept_rows.proofs.Accepted.{StateFits, RowFits}
+use Rattle.period.specs.Sharing.{Sharing}
+use Rattle.period.specs.Period.{offerAt, rampOfferAt, nodeAt, flowAt, offFlowAt, onFlowAt, corridorAfter}
+use Rattle.period.proofs.Fair.{Fair, sends-what-it-has, leaves-what-it-has}
+use Rattle.period.proofs.Nodes.{flow-in-is}
+use Rattle.period.proofs.Reading.{after-entry, after-count, after-queue}
+
+module _ (way : Sharing) (fair : Fair way) (c : Corridor) (demand : List ℕ) (t : TableFits (c .table)) (s : StateFits c) (d : RowFits c demand) where
+  -- no position sends more than it offers
+  pub flow-of-offer : (p : ℕ) → flowAt way c demand p ≤ offerAt c demand p
+  unfolding flowAt nodeAt
+  flow-of-offer p = by (ltb p (cellsOf c)) _ _
+    where
+      by : (inside : Bool) (n e : ℕ) → pick inside (way (rowOf c p) n (offerAt c demand p) e .main) (offerAt c demand p) ≤ offerAt c demand p
+      by true n e = fair .mainline-of-offer _ _ _ _
+      by false n e = omega arith
+
+  -- f is at most n
+  flow-is-in-the-cell : (i : ℕ) → i < cellsOf c → flowAt way c demand (suc i) ≤ countOf c i
+  flow-is-in-the-cell i h =
+      omega
+      (arith, flow-of-offer (suc i), sends-what-it-has (rowOf c i) (countOf c i) (offDemandAt (cellsOf c) demand i) (t .rows i h .v .most))
+
+  -- f + s is at most n
+  pub what-leaves-is-in-the-cell : (i : ℕ) → i < cellsOf c → flowAt way c demand (suc i) + offFlowAt way c demand i ≤ countOf c i
+  unfolding offFlowAt
+  what-leaves-is-in-the-cell i h =
+      omega
+      (arith, leaves-what-it-has (rowOf c i) (countOf c i) (offDemandAt (cellsOf c) demand i) (flowAt way c demand (suc i)) (flow-is-in-the-cell i h))
+
+  -- what comes from upstream and by the on-ramp fits the room
+  pub what-comes-fits : (i : ℕ) → i < cellsOf c → flowAt way c demand i + onFlowAt way c demand i ≤ rowOf c i .jam - countOf c i
+  unfolding nodeAt
+  what-comes-fits i h =
+      rw (flow-in-is way c demand i h)
+      (fair .both-fit (rowOf c i) (countOf c i) (offerAt c demand i) (rampOfferAt c demand i) (t .rooms i h))
+
+  -- an on-ramp lets no more in than waits there
+  pub ramp-of-queue : (i : ℕ) → onFlowAt way c demand i ≤ queueOf c i + onDemandAt demand i
+  unfolding nodeAt
+  ramp-of-queue i =
+      omega (arith, fair .ramp-of-offer (rowOf c i) (countOf c i) (offerAt c demand i) (rampOfferAt c demand i))
+
+  -- the balance of a cell, of the entry and of an on-ramp
+  pub cell-balance : (i : ℕ) → i < cellsOf c → countOf (corridorAfter way c demand) i + flowAt way c demand (suc i) + offFlowAt way c demand i ≡ countOf c i + flowAt way c demand i + onFlowAt way c demand i
+  cell-balance i h = omega (arith, after-count way c demand i h, what-leaves-is-in-the-cell i h)
+
+  pub entry-balance : entryQueueOf (corridorAfter way c demand) + flowAt way c demand 0 ≡ entryQueueOf c + entryDemand demand
+  entry-balance = omega (arith, after-entry way c demand, flow-of-offer 0)
+
+  pub queue-balance : (i : ℕ) → i < cellsOf c → queueOf (corridorAfter way c demand) i + onFlowAt way c demand i ≡ queueOf c i + onDemandAt demand i
+  queue-balance i h = omega (arith, after-queue way c demand i h, ramp-of-queue i)
+
+  -- after the period each cell holds between nothing and its jam count
+  pub count-stays-within : (i : ℕ) → i < cellsOf c → countOf (corridorAfter way c demand) i ≤ rowOf c i .jam
+  count-stays-within i h = omega (arith, after-count way c demand i h, what-comes-fits i h, s .counts i h)
