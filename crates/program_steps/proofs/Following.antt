@@ -17,7 +17,7 @@ use Rattle.text_scans.specs.declared.Step.{Step}
 use Rattle.text_scans.specs.declared.Step.the-variants.{More, Field, Complete, Breaks}
 use Rattle.text_records.specs.declared.Read.{Read}
 use Rattle.text_records.specs.declared.Read.the-variants as Read
-use Rattle.text_records.proofs.Pieces.{reaches-on}
+use Rattle.text_laws.proofs.Pieces.{reaches-on}
 use Rattle.refusals.specs.declared.Answer.{Answer}
 use Rattle.refusals.specs.declared.Answer.the-variants.{Accepted, Refused}
 use Rattle.layout.specs.Layout.{cells, demandLength}

@@ -8,7 +8,7 @@ use borrow.Author.Tests.{ne-eqb}
 use lib.ListN.{length, length-append}
 use Rattle.text_digits.proofs.Digits.{one-digit, more-digits}
 use Rattle.text_digits.specs.Lines.{LF, CR, COMMA, DIGIT, digitsOf, furtherText, recordText, lineText}
-use Rattle.text_scans.proofs.Fed.{Fed, first-digit, next-digit, comma, return, line, breaks, fed}
+use Rattle.text_laws.proofs.Fed.{Fed, first-digit, next-digit, comma, return, line, breaks, fed}
 use Rattle.text_laws.proofs.ReadBack.{one-more, together-one-more, no-text, open-text, text-after}
 use Rattle.text_records.specs.Texts.{textOf, Small, none, and, Fits, AllFit, none-left, and-then, TextOf, left-open, together}
 use Rattle.text_scans.specs.Scans.{LARGEST, LONGEST, begin, feed, ended}

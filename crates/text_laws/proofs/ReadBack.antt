@@ -12,7 +12,8 @@ use lib.ListN.{length, set, length-append}
 use lib.Seq.{sets, sets-eq, drop-length}
 use Rattle.text_digits.proofs.Digits.{one-digit, more-digits}
 use Rattle.text_digits.specs.Lines.{LF, CR, DIGIT, digitsOf, furtherText, recordText, lineText}
-use Rattle.text_scans.proofs.Fed.{feeds-first, feeds-next, feeds-comma, feeds-return, feeds-line}
+use Rattle.text_records.proofs.Comes.{feeds-comma}
+use Rattle.text_laws.proofs.Fed.{feeds-first, feeds-next, feeds-return, feeds-line}
 use Rattle.text_records.specs.Texts.{textOf, Small, none, and, Fits, AllFit, none-left, and-then, TextOf, ended, left-open, together}
 use Rattle.text_scans.specs.Scans.{LARGEST, LONGEST, begin, feed}
 use Rattle.text_scans.specs.Scans as scans

@@ -10,7 +10,7 @@ use lib.Dec.{eqb}
 use lib.ListN.{length, length-append}
 use Rattle.whole.specs.Search.{pick}
 use Rattle.text_digits.specs.Lines.{CR, recordText, lineText}
-use Rattle.text_scans.proofs.Fed.{Fed, next-digit, comma, return, breaks, fed}
+use Rattle.text_laws.proofs.Fed.{Fed, next-digit, comma, return, breaks, fed}
 use Rattle.text_laws.proofs.ReadBack.{row-reads-back}
 use Rattle.text_laws.proofs.Accepted.{SoFar, at-start, in-number, at-return, After, one-byte-on, nothing-yet, closes, record-and, startText}
 use Rattle.text_records.specs.Texts.{Fits}

@@ -10,7 +10,6 @@ use lib.ListN.{length, getD, drop, set}
 use Rattle.text_digits.proofs.Stores.{rest-of}
 use Rattle.text_digits.specs.Lines.{COMMA, DIGIT}
 use Rattle.whole.proofs.Tests.{both-hold}
-use Rattle.text_scans.proofs.Fed.{feeds-comma}
 use Rattle.text_scans.specs.Scans.{LONGEST, isDigit, atStart, longer, inNumber, feed}
 use Rattle.text_records.specs.Reads.{readOf, readOn, rowOf, rowOn}
 use Rattle.text_records.specs.Fields.{Comes, DigitsRead, FieldRead, AfterFirst, FromStart, FieldsRead}
@@ -21,6 +20,11 @@ use Rattle.text_scans.specs.declared.Scan.{Scan}
 use Rattle.text_scans.specs.declared.Scan.the-variants.{Start, Number}
 use Rattle.text_scans.specs.declared.Step.{Step}
 use Rattle.text_scans.specs.declared.Step.the-variants.{More, Field}
+
+-- a comma after a field that is not the last
+pub feeds-comma : (fields f y v : ℕ) → f + 1 < fields → y < LONGEST → feed (Number f y v) COMMA fields ≡ Field f v (Start (f + 1) (y + 1))
+unfolding feed inNumber
+feeds-comma fields f y v more room = rw (lt-ltb (f + 1) fields more, lt-ltb y 16384 room)
 
 pub stays : (chunk : List ℕ) (fields at : ℕ) (scan : Scan) (row : List ℕ) → Comes chunk fields at scan row at scan row
 stays chunk fields at scan row = record { answer = refl; stores = refl }

@@ -10,11 +10,11 @@ mod store;
 mod whole_text;
 
 use fields::open_fields;
+use store::put;
 use text_scans::End;
 use text_scans::Scan;
 use text_scans::Step;
 use text_scans::feed;
-use store::put;
 use whole_text::check_text;
 use whole_text::fit;
 use whole_text::one;
