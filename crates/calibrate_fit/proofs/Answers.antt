@@ -25,7 +25,7 @@ use Rattle.calibrate_rows.specs.declared.RowAnswer.{RowAnswer}
 use Rattle.calibrate_rows.specs.declared.RowAnswer.the-variants.{Made, NotMade}
 use Rattle.calibrate_fit.specs.declared.Calibration.the-variants.{Calibrated, NotCalibrated}
 use Rattle.calibrate_fit.specs.Samples.{vehicleFits, lanesFit, sampleAt, usable}
-use Rattle.calibrate_rows.specs.Rows.{cellSettingsFit, valuesFit, rowAs, rowOf}
+use Rattle.calibrate_rows.specs.Rows.{cellSettingsFit, valuesFit, rowAs, rowMade}
 use Rattle.calibrate_rows.proofs.Answers.{test-passes, not-made-by, made-by}
 use Rattle.calibrate_fit.specs.Calibration.{lengthsFit, settingsFit, samplesUsable, fitChecks, fittedDiagram, fittedValues, fitAs, calibratedAs, fitOf, calibrationOf}
 
@@ -82,14 +82,14 @@ module _ (settings : Settings) (flow occupancy : List Float) where
   not-fitted e is = ap (λ a. calibratedAs a diagram values) (refused-stays first later (not-fitted-by (answer first) diagram (sym is ∙ e)))
 
   -- the fit is a diagram, and a row was made of it or not; under settings in range the row maker asks number 11 alone
-  module _ {fit : FitAnswer} {found : Diagram} {row : RowAnswer} (e : fit ≡ fitOf settings flow occupancy) (is : fit ≡ Fitted found) (r : row ≡ rowOf found (settings .period) (settings .cell)) where
+  module _ {fit : FitAnswer} {found : Diagram} {row : RowAnswer} (e : fit ≡ fitOf settings flow occupancy) (is : fit ≡ Fitted found) (r : row ≡ rowMade found (settings .period) (settings .cell)) where
     fitted : (Accepted ≡ answer first) × (found ≡ diagram)
     fitted = fitted-by (answer first) diagram (sym is ∙ e)
 
     row-is : row ≡ rowAs (answer later) values
     row-is =
         r
-        ∙ ap (λ d. rowOf d (settings .period) (settings .cell)) (fitted .1)
+        ∙ ap (λ d. rowMade d (settings .period) (settings .cell)) (fitted .1)
         ∙ ap (λ a. rowAs a values) (sym (test-passes _ (answer later) (cell-in-range (fitted .0))))
 
     pub not-made : {refusal : Refusal} → row ≡ NotMade refusal → NotCalibrated refusal ≡ calibrationOf settings flow occupancy

@@ -33,10 +33,10 @@ use Rattle.calibrate_rows.specs.declared.RowAnswer.the-variants.{Made}
 use Rattle.calibrate_fit.specs.declared.Calibration.the-variants.{Calibrated}
 use Rattle.calibrate_rows.specs.Doubles.{_⊗_, _⊘_, double, finite, between, isZero, unsigned}
 use Rattle.calibrate_fit.specs.Samples.{vehicleFits, lanesFit, flowInRange, occupancyInRange, density, sampleOf, sampleAt, samples}
-use Rattle.calibrate_fit.specs.Diagrams.{freeOf, fits}
-use Rattle.calibrate_rows.specs.RowNumbers.{share, rowValues, rowNumbers, roundedDown, valueFits}
+use Rattle.calibrate_fit.specs.Diagrams.{freeOf, canBeFitted}
+use Rattle.calibrate_rows.specs.RowNumbers.{speedShare, rowValues, rowNumbers, roundedDown, valueFits}
 use Rattle.calibrate_fit.specs.Calibration.{lengthsFit, settingsFit, samplesUsable, diagramFits, fitChecks, calibrationChecks, fittedDiagram, fittedValues, calibratedAs, fitOf, calibrationOf}
-use Rattle.calibrate_rows.specs.Rows.{cellFits, cellSettingsFit, settingUsable, valuesFit, rowChecks, rowOf}
+use Rattle.calibrate_rows.specs.Rows.{cellFits, cellSettingsFit, settingUsable, valuesFit, makingChecks, rowMade}
 use Rattle.calibrate_rows.proofs.Rounding.{denominator-pos, double-positive, InLimits, in-limits, rounded-most}
 use Rattle.calibrate_rows.proofs.Answers.{made-by}
 use Rattle.calibrate_fit.proofs.Answers.{lengths-fit, fitted-by, settings-in-range, cell-in-range}
@@ -154,7 +154,7 @@ module _ (period : ℕ) (cell : Float) (fit : cellSettingsFit period cell ≡ tr
       (positive.mul-mono binary64 (double 3_600) (double 3_600) lowest cell tt tt tt cell-positive tt (cell-between .0))
       (positive.mul-mono binary64 (double 3_600) (double 3_600) cell (double 8) tt tt cell-positive tt tt (cell-between .1))
 
-  share-sign : (speed : Float) → NotNegative speed → NotNegative (share speed period cell)
+  share-sign : (speed : Float) → NotNegative speed → NotNegative (speedShare speed period cell)
   share-sign speed h =
       mul-sign ((speed ⊗ double period) ⊘ (double 3_600 ⊗ cell)) (double 65_536)
       (div-sign (speed ⊗ double period) (double 3_600 ⊗ cell) (mul-sign speed (double period) h period-positive) hours-positive)
@@ -202,7 +202,7 @@ module _ (settings : Settings) (flow occupancy : List Float) {diagram : Diagram}
   settings-fit : settingsFit settings ≡ true
   settings-fit = settings-in-range settings flow occupancy (is .0)
 
-  fits-is : fits (freeOf settings flow occupancy) all ≡ true
+  fits-is : canBeFitted (freeOf settings flow occupancy) all ≡ true
   fits-is = accepted-passes (diagramFits settings flow occupancy) _ after-1 .0 0 (lit< tt)
 
   few : length all ≤ 65_536
@@ -249,10 +249,10 @@ numbers-in-range values fit =
     rw
     (number-within 65_536 (values .v) (lit≤ tt) (lit< tt) (fit 0 (lit< tt)), number-within 65_536 (values .w) (lit≤ tt) (lit< tt) (fit 1 (lit< tt)), number-within 1_000_000 (values .capacity) (lit≤ tt) (lit< tt) (fit 2 (lit< tt)), number-within 4_000_000 (values .jam) (lit≤ tt) (lit< tt) (fit 3 (lit< tt)))
 
-pub made-in-range : (diagram : Diagram) (period : ℕ) (cell : Float) {numbers : RowNumbers} → Made numbers ≡ rowOf diagram period cell → rowInRange (withoutRamps numbers) ≡ true
+pub made-in-range : (diagram : Diagram) (period : ℕ) (cell : Float) {numbers : RowNumbers} → Made numbers ≡ rowMade diagram period cell → rowInRange (withoutRamps numbers) ≡ true
 made-in-range diagram period cell e =
     let values = rowValues diagram period cell in
-    let made = made-by (answer (rowChecks diagram period cell)) values e in
+    let made = made-by (answer (makingChecks diagram period cell)) values e in
     let after = accepted-passes (settingUsable period cell) _ (sym (made .0)) in
     rw (made .1) (numbers-in-range values (accepted-passes (valuesFit values) _ (after .1) .0))
 

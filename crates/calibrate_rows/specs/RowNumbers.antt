@@ -8,15 +8,15 @@ use Rattle.calibrate_rows.specs.declared.RowNumbers.{RowNumbers}
 use Rattle.calibrate_rows.specs.Doubles.{_⊗_, _⊘_, double, between}
 
 -- v is ((speed×T)/(3600×L))×65,536, w the same with wave
-abbrev pub share : Float → ℕ → Float → Float
-share speed period cell = ((speed ⊗ double period) ⊘ (double 3_600 ⊗ cell)) ⊗ double 65_536
+abbrev pub speedShare : Float → ℕ → Float → Float
+speedShare speed period cell = ((speed ⊗ double period) ⊘ (double 3_600 ⊗ cell)) ⊗ double 65_536
 
 -- F is ((capacity×T)×1000)/3600; J is (jam×L)×1000
 abbrev pub rowValues : Diagram → ℕ → Float → RowValues
 rowValues diagram period cell =
     record {
-      v = share (diagram .speed) period cell;
-      w = share (diagram .wave) period cell;
+      v = speedShare (diagram .speed) period cell;
+      w = speedShare (diagram .wave) period cell;
       capacity = ((diagram .capacity ⊗ double period) ⊗ double 1_000) ⊘ double 3_600;
       jam = (diagram .jam ⊗ cell) ⊗ double 1_000;
     }

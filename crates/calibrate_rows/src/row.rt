@@ -1,14 +1,14 @@
 // The row values v, w, F and J of a diagram, and each rounded down from the bits of its double.
 ghost use mathlib.Core.Path.{_≡_};
 ghost use mathlib.Core.Bool.{true};
-ghost use Rattle.calibrate_rows.specs.RowNumbers.{share, rowValues, rowNumbers, LargestNotAbove, valueFits};
+ghost use Rattle.calibrate_rows.specs.RowNumbers.{speedShare, rowValues, rowNumbers, LargestNotAbove, valueFits};
 use crate::Diagram;
 use crate::RowNumbers;
 use crate::RowValues;
 
 // A speed in miles per hour as the share of a cell that is passed in a period, over ONE.
-fn share(speed: f64, period: u32, cell: f64) -> f64
-    ensures { λ r. ⌜ r ≡ share speed period cell ⌝ }
+fn speed_share(speed: f64, period: u32, cell: f64) -> f64
+    ensures { λ r. ⌜ r ≡ speedShare speed period cell ⌝ }
 {
     ((speed * (period as f64)) / (3_600.0 * cell)) * 65_536.0
 }
@@ -18,8 +18,8 @@ pub(crate) fn row_values(diagram: Diagram, period: u32, cell: f64) -> RowValues
     ensures { λ r. ⌜ r ≡ rowValues diagram period cell ⌝ }
 {
     RowValues {
-        v: share(diagram.speed, period, cell),
-        w: share(diagram.wave, period, cell),
+        v: speed_share(diagram.speed, period, cell),
+        w: speed_share(diagram.wave, period, cell),
         capacity: ((diagram.capacity * (period as f64)) * 1_000.0) / 3_600.0,
         jam: (diagram.jam * cell) * 1_000.0,
     }

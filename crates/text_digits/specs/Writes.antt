@@ -27,11 +27,11 @@ abbrev pub twoOf : ℕ → List ℕ
 twoOf n = (DIGIT + n / 10) ∷ (DIGIT + n % 10) ∷ []
 
 -- the bytes of those two, and of the four of a number below 10,000, as one number: the first byte is the lowest
-abbrev pub pairOf : ℕ → ℕ
-pairOf n = DIGIT + n / 10 + 256 * (DIGIT + n % 10)
+abbrev pub twoPacked : ℕ → ℕ
+twoPacked n = DIGIT + n / 10 + 256 * (DIGIT + n % 10)
 
-abbrev pub fourOf : ℕ → ℕ
-fourOf n = pairOf (n / 100) + 65536 * pairOf (n % 100)
+abbrev pub fourPacked : ℕ → ℕ
+fourPacked n = twoPacked (n / 100) + 65536 * twoPacked (n % 100)
 
 -- the number of index i of a record: each but the first follows a comma
 abbrev pub comma : ℕ → List ℕ

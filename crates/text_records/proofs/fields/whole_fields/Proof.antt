@@ -29,7 +29,7 @@ add-field : tie.Need-add-field Inv-loop μ-loop
 add-field c = let more = ltb-true (c .before .before .before .before .before .before .loop .field + 1) (length (c .before .before .before .before .before .before .loop .row)) (sym (c .before .before .before .before .before .followed .ensures) ∙ c .before .before .before .before .if1 .taken) in omega arith
 
 loop-less : tie.Need-loop-less Inv-loop μ-loop
-loop-less c = let one = rw (c .before .begun .given .1) at (c .before .before .before .whole-field .ensures) in omega (arith, one .on, one .ends)
+loop-less c = let one = rw (c .before .begun .given .1) at (c .before .before .before .whole-field .ensures) in omega (arith, one .further, one .ends)
 
 loop-again : tie.Need-loop-again Inv-loop μ-loop
 loop-again c = let more = ltb-true (c .before .before .before .before .before .before .loop .field + 1) (length (c .before .before .before .before .before .before .loop .row)) (sym (c .before .before .before .before .before .followed .ensures) ∙ c .before .before .before .before .if1 .taken) in
