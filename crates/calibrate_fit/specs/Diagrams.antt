@@ -50,10 +50,6 @@ abbrev pub above : Float → List Sample → List Sample
 above critical [] = []
 above critical (sample ∷ rest) = pick (isAbove critical sample) (sample ∷ above critical rest) (above critical rest)
 
--- a step of such a sum, in a pass over all samples
-abbrev pub addsAbove : Float → (Float → Float → Float) → Float → Sample → Float
-addsAbove critical term total sample = pick (isAbove critical sample) (adds term total sample) total
-
 abbrev pub gapByExcess : Float → Float → Float → Float → Float
 gapByExcess capacity critical flow density = (capacity ⊖ flow) ⊗ (density ⊖ critical)
 

@@ -9,7 +9,8 @@ ghost use lib.ListN.{length};
 ghost use Rattle.refusals.specs.Checks.{answer};
 ghost use Rattle.calibrate_rows.specs.Doubles.{unsigned};
 ghost use Rattle.calibrate_fit.specs.declared.Sample.the-variants.{Good, Unusable};
-ghost use Rattle.calibrate_fit.specs.Samples.{flowInRange, occupancyInRange, density, sampleOf, sampleAt, AllUsable, samples};
+ghost use Rattle.calibrate_fit.specs.Samples.{flowInRange, occupancyInRange, density, sampleOf, sampleAt, samples};
+ghost use Rattle.calibrate_fit.specs.Private.{AllUsable};
 ghost use Rattle.calibrate_fit.specs.Diagrams.{largestFlow};
 ghost use Rattle.calibrate_fit.specs.Calibration.{diagramFits, fittedDiagram, fitAs, fitOf, calibrationOf};
 

@@ -21,7 +21,8 @@ use Rattle.whole.proofs.Tests.{both-hold}
 use Rattle.calibrate_rows.specs.Doubles.{double}
 use Rattle.calibrate_rows.specs.declared.RowValues.{RowValues}
 use Rattle.calibrate_rows.specs.declared.RowNumbers.{RowNumbers}
-use Rattle.calibrate_rows.specs.RowNumbers.{numerator, denominator, LargestNotAbove, roundedDown, rowNumbers, valueFits}
+use Rattle.calibrate_rows.specs.RowNumbers.{numerator, denominator, roundedDown, rowNumbers, valueFits}
+use Rattle.calibrate_rows.specs.Private.{LargestNotAbove}
 
 -- the size of a double as a fraction, in the words of the laws of floats
 numerator-is : (x : Float) → numerator x ≡ positive.num x

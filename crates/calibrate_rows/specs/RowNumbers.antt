@@ -1,5 +1,5 @@
 -- Document 01, "Calibration": the row values before rounding, and each rounded down.
-use Prim.Native.Nat.{ℕ, _+_, _*_, _/_, _≤_, _<_}
+use Prim.Native.Nat.{ℕ, _*_, _/_}
 use mathlib.Core.Bool.{Bool}
 use lib.Ieee.{Float, nan, inf, fin, up, down}
 use Rattle.calibrate_rows.specs.declared.Diagram.{Diagram}
@@ -33,10 +33,6 @@ denominator (inf negative) = 1
 denominator (fin negative m e) = down e
 
 -- the largest whole number not above a double that is not negative
-pub record LargestNotAbove (x : Float) (r : ℕ) : Type 0 where
-  pub not-above : r * denominator x ≤ numerator x
-  pub largest : numerator x < (r + 1) * denominator x
-
 abbrev pub roundedDown : Float → ℕ
 roundedDown x = numerator x / denominator x
 

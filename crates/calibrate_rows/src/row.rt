@@ -1,7 +1,8 @@
 // The row values v, w, F and J of a diagram, and each rounded down from the bits of its double.
 ghost use mathlib.Core.Path.{_≡_};
 ghost use mathlib.Core.Bool.{true};
-ghost use Rattle.calibrate_rows.specs.RowNumbers.{speedShare, rowValues, rowNumbers, LargestNotAbove, valueFits};
+ghost use Rattle.calibrate_rows.specs.RowNumbers.{speedShare, rowValues, rowNumbers, valueFits};
+ghost use Rattle.calibrate_rows.specs.Private.{LargestNotAbove};
 use crate::Diagram;
 use crate::RowNumbers;
 use crate::RowValues;

@@ -6,7 +6,7 @@ ghost use lib.ListN.{length};
 ghost use lib.Seq.{sets};
 ghost use mathlib.Core.List.{_∷_, [], _++_};
 ghost use Rattle.text_digits.specs.Lines.{COMMA, CR, LF, DIGIT, digitsOf, furtherText, restText, lineText};
-ghost use Rattle.text_digits.specs.Writes.{twoOf, twoPacked, fourPacked, comma, separated};
+ghost use Rattle.text_digits.specs.Private.{twoOf, twoPacked, fourPacked, comma, separated};
 
 // How many decimal digits a number has.
 fn digit_count(number: u64) -> usize

@@ -12,7 +12,7 @@ use Rattle.text_digits.specs.Lines.{COMMA, DIGIT}
 use Rattle.whole.proofs.Tests.{both-hold}
 use Rattle.text_scans.specs.Scans.{LONGEST, isDigit, atStart, longer, inNumber, feed}
 use Rattle.text_records.specs.Reads.{readFrom, readOn, rowFrom, rowOn}
-use Rattle.text_records.specs.Fields.{Comes, DigitsRead, FieldRead, AfterFirst, FromStart, FieldsRead}
+use Rattle.text_records.specs.Private.{Comes, DigitsRead, FieldRead, AfterFirst, FromStart, FieldsRead}
 use Rattle.text_records.specs.declared.Digits.{Digits}
 use Rattle.text_records.specs.declared.Begun.{Begun}
 use Rattle.text_records.specs.declared.Begun.the-variants.{Whole, Other}

@@ -4,7 +4,7 @@ use native.Mathlib.Omega.{arith}
 use borrow.Author.Needs.{needs}
 use lib.ListN.{length-append}
 use Rattle.text_digits.specs.Lines.{digitsOf}
-use Rattle.text_digits.specs.Writes.{comma, separated}
+use Rattle.text_digits.specs.Private.{comma, separated}
 use Rattle.text_digits.proofs.Stores.{stores-after}
 use Rattle.text_digits.proofs.decimal.put_separated.Statement.{statement}
 use Rattle.text_digits.proofs.decimal.put_separated.Tie as tie

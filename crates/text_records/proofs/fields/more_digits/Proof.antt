@@ -5,7 +5,7 @@ use native.Mathlib.Omega.{arith}
 use borrow.Author.Needs.{needs}
 use borrow.Author.Tests.{not-false}
 use lib.ListN.{getD}
-use Rattle.text_records.specs.Fields.{DigitsRead}
+use Rattle.text_records.specs.Private.{DigitsRead}
 use Rattle.text_records.proofs.Comes.{is-digit, no-digits-yet, one-digit-more}
 use Rattle.text_records.proofs.fields.more_digits.Statement.{statement}
 use Rattle.text_records.proofs.fields.more_digits.Tie as tie

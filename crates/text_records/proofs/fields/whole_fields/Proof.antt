@@ -5,7 +5,7 @@ use native.Mathlib.Omega.{arith}
 use borrow.Author.Needs.{needs}
 use borrow.Author.Tests.{ltb-true}
 use lib.ListN.{length, length-set}
-use Rattle.text_records.specs.Fields.{FieldsRead}
+use Rattle.text_records.specs.Private.{FieldsRead}
 use Rattle.text_records.proofs.Comes.{no-fields-yet, one-field-more}
 use Rattle.text_records.proofs.fields.whole_fields.Statement.{statement}
 use Rattle.text_records.proofs.fields.whole_fields.Tie as tie

@@ -1,3 +1,4 @@
+-- Cited by private contracts and proofs alone: no public promise rests on this file.
 -- Fields read at once: reading on from one place of a chunk comes to what reading on from a later place comes to.
 use Prim.Native.Nat.{ℕ, _+_, _-_, _≤_, _<_}
 use mathlib.Core.Path.{_≡_}
