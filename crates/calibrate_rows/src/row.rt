@@ -2,7 +2,7 @@
 ghost use mathlib.Core.Path.{_≡_};
 ghost use mathlib.Core.Bool.{true};
 ghost use Rattle.calibrate_rows.specs.RowNumbers.{speedShare, rowValues, rowNumbers, valueFits};
-ghost use Rattle.calibrate_rows.specs.Private.{LargestNotAbove};
+ghost use Rattle.calibrate_rows.specs.Private.{LargestNotAbove, EachFits};
 use crate::Diagram;
 use crate::RowNumbers;
 use crate::RowValues;
@@ -41,10 +41,7 @@ fn rounded_down(x: f64) -> u32
 
 // The row values rounded down.
 pub(crate) fn row_numbers(values: RowValues) -> RowNumbers
-    requires { ⌜ valueFits 65_536 (values .v) ≡ true ⌝ }
-    requires { ⌜ valueFits 65_536 (values .w) ≡ true ⌝ }
-    requires { ⌜ valueFits 1_000_000 (values .capacity) ≡ true ⌝ }
-    requires { ⌜ valueFits 4_000_000 (values .jam) ≡ true ⌝ }
+    requires { ⌜ EachFits values ⌝ }
     ensures { λ r. ⌜ r ≡ rowNumbers values ⌝ }
 {
     RowNumbers {

@@ -1,10 +1,10 @@
 -- Reading on from one place comes to what reading on from a later one comes to: step by step, and one after the other. Assumes nothing.
 use Prim.Native.Nat.{ℕ, _+_, _-_, _*_, _≤_, _<_}
-use mathlib.Core.Path.{_≡_, refl, _∙_}
-use mathlib.Core.Bool.{true}
+use mathlib.Core.Path.{_≡_, refl, sym, _∙_}
+use mathlib.Core.Bool.{Bool, false, not}
 use mathlib.Core.List.{List}
 use native.Mathlib.Omega.{arith}
-use borrow.Author.Tests.{lt-ltb, le-leb, ne-eqb, leb-true}
+use borrow.Author.Tests.{lt-ltb, le-leb, ne-eqb, leb-true, not-false}
 use lib.Dec.{leb}
 use lib.ListN.{length, getD, drop, set}
 use Rattle.text_digits.proofs.Stores.{rest-of}
@@ -72,8 +72,11 @@ module _ (chunk : List ℕ) (at field bytes : ℕ) (h : at < length chunk) (room
       byte-field chunk fields at (Number field bytes value) row h field value (Start (field + 1) (bytes + 1))
       (rw is (feeds-comma fields field bytes value more room))
 
-pub is-digit : (byte : ℕ) → isDigit byte ≡ true → (DIGIT ≤ byte) × (byte ≤ DIGIT + 9)
-is-digit byte e = let parts = both-hold (leb 48 byte) (leb byte 57) e in (leb-true 48 byte (parts .0), leb-true byte 57 (parts .1))
+-- a byte whose test for a digit held
+pub is-digit : (byte : ℕ) {r : Bool} → r ≡ isDigit byte → not r ≡ false → (DIGIT ≤ byte) × (byte ≤ DIGIT + 9)
+is-digit byte e h =
+    let parts = both-hold (leb 48 byte) (leb byte 57) (sym e ∙ not-false _ h) in
+    (leb-true 48 byte (parts .0), leb-true byte 57 (parts .1))
 
 -- Digits after the first, one after the other.
 
