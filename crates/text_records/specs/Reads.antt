@@ -90,10 +90,10 @@ fit fields room (Holds n) = pick (leb (n * fields) room) (Holds n) TooLong
 fit fields room (BrokenAt place) = BrokenAt place
 fit fields room TooLong = TooLong
 
-abbrev pub stored : Text → List ℕ → List ℕ → List ℕ
-stored (Holds n) list into = sets into 0 list
-stored (BrokenAt place) list into = into
-stored TooLong list into = into
+abbrev pub afterReading : Text → List ℕ → List ℕ → List ℕ
+afterReading (Holds n) list into = sets into 0 list
+afterReading (BrokenAt place) list into = into
+afterReading TooLong list into = into
 
 -- A text of exactly one record: a missing one breaks as record 1, and anything after it as record 2.
 
