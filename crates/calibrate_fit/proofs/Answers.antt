@@ -1,7 +1,7 @@
--- How an answer goes from check to check, and what the answers of the fit and the calibration tell. Assumes nothing.
+-- How an answer goes from check to check, and what the answers of the fit tell. Assumes nothing.
 use Prim.Native.Nat.{ℕ, _+_, _≤_}
 use mathlib.Core.Path.{_≡_, refl, sym, ap, ap₂, _∙_}
-use mathlib.Core.Bool.{Bool, true, false, _&&_}
+use mathlib.Core.Bool.{Bool, true, _&&_}
 use mathlib.Core.List.{List, [], _∷_}
 use native.Mathlib.Numerals.{add-one}
 use native.Mathlib.Omega.{arith}
@@ -11,7 +11,7 @@ use lib.ListN.{length}
 use Rattle.refusals.specs.declared.Refusal.{Refusal}
 use Rattle.refusals.specs.declared.Answer.{Answer}
 use Rattle.refusals.specs.declared.Answer.the-variants.{Accepted, Refused}
-use Rattle.refusals.specs.Checks.{Check, orLater, answer, lengths}
+use Rattle.refusals.specs.Checks.{Check, answer, lengths}
 use Rattle.whole.proofs.Tests.{both-hold}
 use Rattle.refusals.proofs.Answers.{refused-stays, accepted-goes-on, accepted-passes}
 use Rattle.calibrate_fit.specs.declared.Settings.{Settings}
@@ -25,17 +25,11 @@ use Rattle.calibrate_rows.specs.declared.RowAnswer.{RowAnswer}
 use Rattle.calibrate_rows.specs.declared.RowAnswer.the-variants.{Made, NotMade}
 use Rattle.calibrate_fit.specs.declared.Calibration.the-variants.{Calibrated, NotCalibrated}
 use Rattle.calibrate_fit.specs.Samples.{vehicleFits, lanesFit, sampleAt, usable}
-use Rattle.calibrate_rows.specs.RowNumbers.{rowNumbers}
-use Rattle.calibrate_rows.specs.Rows.{cellSettingsFit, valuesFit, rowAs, rowOf}
+use Rattle.calibrate_rows.specs.Rows.{cellSettingsFit, valuesFit, rowAs, rowMade}
 use Rattle.calibrate_rows.proofs.Answers.{test-passes, not-made-by, made-by}
 use Rattle.calibrate_fit.specs.Calibration.{lengthsFit, settingsFit, samplesUsable, fitChecks, fittedDiagram, fittedValues, fitAs, calibratedAs, fitOf, calibrationOf}
 
--- the lengths fit where the samples are accepted
-pub accepted-lengths : (fit : Bool) (later : Answer) → Accepted ≡ orLater (lengths fit) later → fit ≡ true
-unfolding orLater
-accepted-lengths true later e = refl
-accepted-lengths false later e = cc
-
+-- what fitting lengths say
 pub record Lengths (settings : Settings) (flow occupancy : List Float) : Type 0 where
   pub equal : length flow ≡ length occupancy
   pub few : length flow ≤ 65_536
@@ -52,7 +46,7 @@ lengths-fit settings flow occupancy e =
 pub tested : (settings : Settings) (flow occupancy : List Float) (i : ℕ) {sample : Sample} {r : Bool} → sample ≡ sampleAt settings flow occupancy i → r ≡ usable sample → r ≡ samplesUsable settings flow occupancy .test (i + 1)
 tested settings flow occupancy i read e = rw add-one (e ∙ ap usable read)
 
--- what an answer of the fit or of the calibration tells
+-- what an answer of the fit tells
 pub not-fitted-by : (a : Answer) (diagram : Diagram) {refusal : Refusal} → NotFitted refusal ≡ fitAs a diagram → Refused refusal ≡ a
 not-fitted-by Accepted diagram e = cc
 not-fitted-by (Refused r) diagram e = cc
@@ -60,10 +54,6 @@ not-fitted-by (Refused r) diagram e = cc
 pub fitted-by : (a : Answer) (diagram : Diagram) {found : Diagram} → Fitted found ≡ fitAs a diagram → (Accepted ≡ a) × (found ≡ diagram)
 fitted-by Accepted diagram e = (refl, cc)
 fitted-by (Refused r) diagram e = (cc, cc)
-
-pub calibrated-by : (a : Answer) (diagram : Diagram) (values : RowValues) {found : Diagram} {numbers : RowNumbers} → Calibrated found numbers ≡ calibratedAs a diagram values → (Accepted ≡ a) × (numbers ≡ rowNumbers values)
-calibrated-by Accepted diagram values e = (refl, cc)
-calibrated-by (Refused r) diagram values e = (cc, cc)
 
 -- ---- from the fit and the row to the calibration
 module _ (settings : Settings) (flow occupancy : List Float) where
@@ -92,14 +82,14 @@ module _ (settings : Settings) (flow occupancy : List Float) where
   not-fitted e is = ap (λ a. calibratedAs a diagram values) (refused-stays first later (not-fitted-by (answer first) diagram (sym is ∙ e)))
 
   -- the fit is a diagram, and a row was made of it or not; under settings in range the row maker asks number 11 alone
-  module _ {fit : FitAnswer} {found : Diagram} {row : RowAnswer} (e : fit ≡ fitOf settings flow occupancy) (is : fit ≡ Fitted found) (r : row ≡ rowOf found (settings .period) (settings .cell)) where
+  module _ {fit : FitAnswer} {found : Diagram} {row : RowAnswer} (e : fit ≡ fitOf settings flow occupancy) (is : fit ≡ Fitted found) (r : row ≡ rowMade found (settings .period) (settings .cell)) where
     fitted : (Accepted ≡ answer first) × (found ≡ diagram)
     fitted = fitted-by (answer first) diagram (sym is ∙ e)
 
     row-is : row ≡ rowAs (answer later) values
     row-is =
         r
-        ∙ ap (λ d. rowOf d (settings .period) (settings .cell)) (fitted .1)
+        ∙ ap (λ d. rowMade d (settings .period) (settings .cell)) (fitted .1)
         ∙ ap (λ a. rowAs a values) (sym (test-passes _ (answer later) (cell-in-range (fitted .0))))
 
     pub not-made : {refusal : Refusal} → row ≡ NotMade refusal → NotCalibrated refusal ≡ calibrationOf settings flow occupancy

@@ -14,10 +14,10 @@ use Rattle.calibrate_rows.specs.declared.Diagram.{Diagram}
 use Rattle.calibrate_rows.specs.Doubles.{_⊕_, _⊘_, isZero}
 use Rattle.calibrate_fit.specs.Calibration.{fitAs}
 use Rattle.calibrate_rows.proofs.Answers.{test-fails, test-passes}
-use Rattle.calibrate_fit.specs.Diagrams.{sum, ratio, densitySquared, speedSums, largestFlow, above, excessSquared, waveSums, diagramOf, isEmpty, fits}
+use Rattle.calibrate_fit.specs.Diagrams.{sumOver, ratio, densitySquared, speedSums, largestFlow, above, excessSquared, waveSums, diagramOf, isEmpty, canBeFitted}
 
 -- nothing sums to zero
-empty-sum : (term : Float → Float → Float) (all : List Sample) → isEmpty all ≡ true → isZero (sum term all) ≡ true
+empty-sum : (term : Float → Float → Float) (all : List Sample) → isEmpty all ≡ true → isZero (sumOver term all) ≡ true
 unfolding ofInt eq
 empty-sum term [] e = refl
 empty-sum term (sample ∷ rest) e = absurd (false≢true e)
@@ -38,8 +38,8 @@ module _ (free all : List Sample) (speeds waves : Sums) (capacity : Float) (s : 
   unfolding diagramOf
   diagram-is = rw (w, s, k)
 
-  fits-unless : not (isZero (speeds .bottom) || isZero (ratio speeds) || isZero (waves .bottom) || isZero (ratio waves)) ≡ fits free all
-  unfolding fits diagramOf
+  fits-unless : not (isZero (speeds .bottom) || isZero (ratio speeds) || isZero (waves .bottom) || isZero (ratio waves)) ≡ canBeFitted free all
+  unfolding canBeFitted diagramOf
   fits-unless =
       let critical = largestFlow all ⊘ ratio (speedSums free) in
       rw (w, s, k)
@@ -47,10 +47,10 @@ module _ (free all : List Sample) (speeds waves : Sums) (capacity : Float) (s : 
       (four-of-six (isEmpty free) _ _ _ _ (isEmpty (above critical all)) (empty-sum densitySquared free) (empty-sum (excessSquared critical) (above critical all))))
 
   -- the code's test went one way or the other
-  pub no-diagram : (isZero (speeds .bottom) || isZero (ratio speeds) || isZero (waves .bottom) || isZero (ratio waves)) ≡ true → NotFitted Fit ≡ fitAs (answer (record { places = 1; test = λ _. fits free all; refusal = λ _. Fit } ∷ [])) (diagramOf free all)
+  pub no-diagram : (isZero (speeds .bottom) || isZero (ratio speeds) || isZero (waves .bottom) || isZero (ratio waves)) ≡ true → NotFitted Fit ≡ fitAs (answer (record { places = 1; test = λ _. canBeFitted free all; refusal = λ _. Fit } ∷ [])) (diagramOf free all)
   no-diagram zero = ap (λ a. fitAs a (diagramOf free all)) (test-fails (λ _. Fit) Accepted (sym fits-unless ∙ ap not zero))
 
-  pub the-diagram : (isZero (speeds .bottom) || isZero (ratio speeds) || isZero (waves .bottom) || isZero (ratio waves)) ≡ false → Fitted (record { speed = ratio speeds; capacity = capacity; critical = capacity ⊘ ratio speeds; wave = ratio waves; jam = (capacity ⊘ ratio speeds) ⊕ capacity ⊘ ratio waves }) ≡ fitAs (answer (record { places = 1; test = λ _. fits free all; refusal = λ _. Fit } ∷ [])) (diagramOf free all)
+  pub the-diagram : (isZero (speeds .bottom) || isZero (ratio speeds) || isZero (waves .bottom) || isZero (ratio waves)) ≡ false → Fitted (record { speed = ratio speeds; capacity = capacity; critical = capacity ⊘ ratio speeds; wave = ratio waves; jam = (capacity ⊘ ratio speeds) ⊕ capacity ⊘ ratio waves }) ≡ fitAs (answer (record { places = 1; test = λ _. canBeFitted free all; refusal = λ _. Fit } ∷ [])) (diagramOf free all)
   the-diagram none =
       ap Fitted diagram-is
       ∙ ap (λ a. fitAs a (diagramOf free all)) (test-passes (λ _. Fit) Accepted (sym fits-unless ∙ ap not none))

@@ -2,8 +2,4 @@ pub mod Tests
 pub mod Passes
 pub mod Answers
 pub mod Fitting
-pub mod Signs
-pub mod NoNan
-pub mod Calibrated
 pub mod Settled
-pub mod WorkedCase

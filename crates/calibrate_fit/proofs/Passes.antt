@@ -17,7 +17,8 @@ use Rattle.calibrate_fit.specs.declared.Cause.the-variants.{FlowNotFinit
 use Rattle.calibrate_fit.specs.declared.Sums.{Sums}
 use Rattle.calibrate_rows.specs.Doubles.{double}
 use Rattle.calibrate_fit.specs.Samples.{sampleAt, samples, stretch}
-use Rattle.calibrate_fit.specs.Diagrams.{adds, isAbove, above, addsAbove}
+use Rattle.calibrate_fit.specs.Diagrams.{adds, isAbove, above}
+use Rattle.calibrate_fit.specs.Private.{addsAbove}
 
 -- the samples of two lists
 pub samples-length : (settings : Settings) (flow occupancy : List Float) → length (samples settings flow occupancy) ≡ length flow

@@ -18,7 +18,7 @@ use Rattle.calibrate_fit.specs.declared.FitAnswer.the-variants.{Fitted, 
 use Rattle.calibrate_fit.specs.declared.Calibration.{Calibration}
 use Rattle.calibrate_fit.specs.declared.Calibration.the-variants.{Calibrated, NotCalibrated}
 use Rattle.calibrate_fit.specs.Samples.{vehicleFits, lanesFit, sampleAt, usable, samples}
-use Rattle.calibrate_fit.specs.Diagrams.{freeOf, diagramOf, fits}
+use Rattle.calibrate_fit.specs.Diagrams.{freeOf, diagramOf, canBeFitted}
 use Rattle.calibrate_rows.specs.RowNumbers.{rowValues, rowNumbers}
 use Rattle.calibrate_rows.specs.Rows.{cellSettingsFit, valuesFit}
 
@@ -46,7 +46,7 @@ samplesUsable settings flow occupancy =
 -- 10
 abbrev pub diagramFits : Settings → List Float → List Float → Check
 diagramFits settings flow occupancy =
-    record { places = 1; test = λ _. fits (freeOf settings flow occupancy) (samples settings flow occupancy); refusal = λ _. Fit }
+    record { places = 1; test = λ _. canBeFitted (freeOf settings flow occupancy) (samples settings flow occupancy); refusal = λ _. Fit }
 
 -- What is asked of samples (1, 9), of a fit (1, 9, 10), and of a calibration (1, 9, 10, 11)
 

@@ -16,8 +16,8 @@ abbrev pub adds : (Float → Float → Float) → Float → Sample → Float
 adds term total (Good flow density) = total ⊕ term flow density
 adds term total (Unusable cause) = total
 
-abbrev pub sum : (Float → Float → Float) → List Sample → Float
-sum term all = foldl (adds term) (double 0) all
+abbrev pub sumOver : (Float → Float → Float) → List Sample → Float
+sumOver term all = foldl (adds term) (double 0) all
 
 -- two sums, the one to be divided by the other
 abbrev pub ratio : Sums → Float
@@ -31,7 +31,7 @@ abbrev pub densitySquared : Float → Float → Float
 densitySquared flow density = density ⊗ density
 
 abbrev pub speedSums : List Sample → Sums
-speedSums free = record { top = sum flowByDensity free; bottom = sum densitySquared free }
+speedSums free = record { top = sumOver flowByDensity free; bottom = sumOver densitySquared free }
 
 -- capacity = the largest flow of all samples
 abbrev pub larger : Float → Sample → Float
@@ -50,10 +50,6 @@ abbrev pub above : Float → List Sample → List Sample
 above critical [] = []
 above critical (sample ∷ rest) = pick (isAbove critical sample) (sample ∷ above critical rest) (above critical rest)
 
--- a step of such a sum, in a pass over all samples
-abbrev pub addsAbove : Float → (Float → Float → Float) → Float → Sample → Float
-addsAbove critical term total sample = pick (isAbove critical sample) (adds term total sample) total
-
 abbrev pub gapByExcess : Float → Float → Float → Float → Float
 gapByExcess capacity critical flow density = (capacity ⊖ flow) ⊗ (density ⊖ critical)
 
@@ -62,7 +58,7 @@ excessSquared critical flow density = (density ⊖ critical) ⊗ (density ⊖ cr
 
 abbrev pub waveSums : Float → Float → List Sample → Sums
 waveSums capacity critical all =
-    record { top = sum (gapByExcess capacity critical) (above critical all); bottom = sum (excessSquared critical) (above critical all) }
+    record { top = sumOver (gapByExcess capacity critical) (above critical all); bottom = sumOver (excessSquared critical) (above critical all) }
 
 -- critical = capacity / speed, jam = critical + capacity / wave; the diagram is these five doubles kept together
 unfoldable pub diagramOf : List Sample → List Sample → Diagram
@@ -78,8 +74,8 @@ abbrev pub isEmpty : List Sample → Bool
 isEmpty [] = true
 isEmpty (sample ∷ rest) = false
 
-unfoldable pub fits : List Sample → List Sample → Bool
-fits free all =
+unfoldable pub canBeFitted : List Sample → List Sample → Bool
+canBeFitted free all =
     let diagram = diagramOf free all in
     not (isEmpty free)
     && not (isZero (speedSums free .bottom))

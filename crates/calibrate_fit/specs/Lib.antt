@@ -1,3 +1,4 @@
 pub mod Samples
 pub mod Diagrams
 pub mod Calibration
+pub mod Private

@@ -1,6 +1,5 @@
 -- Document 01, "Calibration": the settings g and lanes, and how a sample is read.
-use Prim.Native.Nat.{ℕ, _-_, _<_}
-use mathlib.Core.Path.{_≡_}
+use Prim.Native.Nat.{ℕ, _-_}
 use mathlib.Core.Bool.{Bool, true, false}
 use mathlib.Core.List.{List}
 use lib.Ieee.{Float, nan}
@@ -49,9 +48,6 @@ usable (Unusable cause) = false
 -- two lists, flow and occupancy, in sample order
 abbrev pub sampleAt : Settings → List Float → List Float → ℕ → Sample
 sampleAt settings flow occupancy i = sampleOf (settings .g) (settings .lanes) (getD flow i nan) (getD occupancy i nan)
-
-abbrev pub AllUsable : Settings → List Float → List Float → Type 0
-AllUsable settings flow occupancy = (i : ℕ) → i < length flow → usable (sampleAt settings flow occupancy i) ≡ true
 
 unfoldable pub samples : Settings → List Float → List Float → List Sample
 samples settings flow occupancy = build (length flow) (sampleAt settings flow occupancy)

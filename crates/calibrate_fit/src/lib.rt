@@ -1,4 +1,4 @@
-// Calibration: detector samples of flow and occupancy become a triangular diagram, and `calibrate` has `row_maker` make the
+// Calibration: detector samples of flow and occupancy become a triangular diagram, and `calibrate` has `calibrate_rows` make the
 // cell row of it too. Every sum and quotient is rounded once, in document 01's order.
 ghost use mathlib.Core.Path.{_≡_};
 ghost use Prim.Native.Nat.{ℕ, _≤_, _<_};
@@ -9,7 +9,8 @@ ghost use lib.ListN.{length};
 ghost use Rattle.refusals.specs.Checks.{answer};
 ghost use Rattle.calibrate_rows.specs.Doubles.{unsigned};
 ghost use Rattle.calibrate_fit.specs.declared.Sample.the-variants.{Good, Unusable};
-ghost use Rattle.calibrate_fit.specs.Samples.{flowInRange, occupancyInRange, density, sampleOf, sampleAt, AllUsable, samples};
+ghost use Rattle.calibrate_fit.specs.Samples.{flowInRange, occupancyInRange, density, sampleOf, sampleAt, samples};
+ghost use Rattle.calibrate_fit.specs.Private.{AllUsable};
 ghost use Rattle.calibrate_fit.specs.Diagrams.{largestFlow};
 ghost use Rattle.calibrate_fit.specs.Calibration.{diagramFits, fittedDiagram, fitAs, fitOf, calibrationOf};
 
@@ -17,10 +18,10 @@ mod checks;
 mod doubles;
 mod totals;
 
-use refusals::Refusal;
 use calibrate_rows::Diagram;
 use calibrate_rows::RowAnswer;
 use calibrate_rows::RowNumbers;
+use refusals::Refusal;
 
 // What a calibration is told beside its samples: the effective vehicle length g in miles, the lanes, the period T in whole
 // seconds, the cell's length L in miles, and the stretch of samples in free flow, counted from 0, the end not included.

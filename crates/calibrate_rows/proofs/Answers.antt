@@ -12,8 +12,9 @@ use Rattle.refusals.specs.Checks.{least, orLater}
 use Rattle.calibrate_rows.specs.declared.RowValues.{RowValues}
 use Rattle.calibrate_rows.specs.declared.RowNumbers.{RowNumbers}
 use Rattle.calibrate_rows.specs.declared.RowAnswer.the-variants.{Made, NotMade}
-use Rattle.calibrate_rows.specs.RowNumbers.{rowNumbers, valueFits}
+use Rattle.calibrate_rows.specs.RowNumbers.{rowNumbers}
 use Rattle.calibrate_rows.specs.Rows.{valuesFit, rowAs}
+use Rattle.calibrate_rows.specs.Private.{EachFits}
 
 -- r is what the code found of a test, and `if !r` went one way or the other
 pub fails : {r test : Bool} → r ≡ test → not r ≡ true → test ≡ false
@@ -32,10 +33,10 @@ unfolding orLater
 test-passes refusal later e = rw e
 
 -- the four values fit where the check of number 11 finds nothing
-pub values-fit : (values : RowValues) {at : ℕ} → at ≡ least (valuesFit values) → 4 ≤ at → (valueFits 65_536 (values .v) ≡ true) × ((valueFits 65_536 (values .w) ≡ true) × ((valueFits 1_000_000 (values .capacity) ≡ true) × (valueFits 4_000_000 (values .jam) ≡ true)))
+pub values-fit : (values : RowValues) {at : ℕ} → at ≡ least (valuesFit values) → 4 ≤ at → EachFits values
 values-fit values e h =
     let fit = all-pass 4 (valuesFit values .test) e h in
-    (fit 0 (lit< tt), (fit 1 (lit< tt), (fit 2 (lit< tt), fit 3 (lit< tt))))
+    record { v = fit 0 (lit< tt); w = fit 1 (lit< tt); capacity = fit 2 (lit< tt); jam = fit 3 (lit< tt) }
 
 -- what an answer of the row maker tells
 pub not-made-by : (a : Answer) (values : RowValues) {refusal : Refusal} → NotMade refusal ≡ rowAs a values → Refused refusal ≡ a

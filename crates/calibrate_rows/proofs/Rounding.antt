@@ -21,7 +21,8 @@ use Rattle.whole.proofs.Tests.{both-hold}
 use Rattle.calibrate_rows.specs.Doubles.{double}
 use Rattle.calibrate_rows.specs.declared.RowValues.{RowValues}
 use Rattle.calibrate_rows.specs.declared.RowNumbers.{RowNumbers}
-use Rattle.calibrate_rows.specs.RowNumbers.{numerator, denominator, LargestNotAbove, roundedDown, rowNumbers, valueFits}
+use Rattle.calibrate_rows.specs.RowNumbers.{numerator, denominator, roundedDown, rowNumbers, valueFits}
+use Rattle.calibrate_rows.specs.Private.{LargestNotAbove}
 
 -- the size of a double as a fraction, in the words of the laws of floats
 numerator-is : (x : Float) → numerator x ≡ positive.num x
@@ -100,10 +101,7 @@ wider x limit more p le h e =
     fits-limits more h (omega arith) x
     (record { above-zero = inside .above-zero; least = inside .least; most = le-trans (inside .most) (mul-le-mul-right (denominator x) le) })
 
--- what is rounded down is from 1 to the limit
-pub rounded-least : (x : Float) (limit : ℕ) → InLimits limit x → 1 ≤ roundedDown x
-rounded-least x limit inside = le-div-iff-mul-le (denominator-pos x) .1 (omega (arith, inside .least))
-
+-- what is rounded down is at most the limit
 pub rounded-most : (x : Float) (limit : ℕ) → InLimits limit x → roundedDown x ≤ limit
 rounded-most x limit inside = div-le-of-le-mul (denominator x) (omega (arith, inside .most, mul-comm limit (denominator x)))
 

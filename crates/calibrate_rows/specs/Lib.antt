@@ -1,3 +1,4 @@
 pub mod Doubles
 pub mod RowNumbers
 pub mod Rows
+pub mod Private

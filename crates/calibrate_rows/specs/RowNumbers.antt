@@ -1,5 +1,5 @@
 -- Document 01, "Calibration": the row values before rounding, and each rounded down.
-use Prim.Native.Nat.{ℕ, _+_, _*_, _/_, _≤_, _<_}
+use Prim.Native.Nat.{ℕ, _*_, _/_}
 use mathlib.Core.Bool.{Bool}
 use lib.Ieee.{Float, nan, inf, fin, up, down}
 use Rattle.calibrate_rows.specs.declared.Diagram.{Diagram}
@@ -8,15 +8,15 @@ use Rattle.calibrate_rows.specs.declared.RowNumbers.{RowNumbers}
 use Rattle.calibrate_rows.specs.Doubles.{_⊗_, _⊘_, double, between}
 
 -- v is ((speed×T)/(3600×L))×65,536, w the same with wave
-abbrev pub share : Float → ℕ → Float → Float
-share speed period cell = ((speed ⊗ double period) ⊘ (double 3_600 ⊗ cell)) ⊗ double 65_536
+abbrev pub speedShare : Float → ℕ → Float → Float
+speedShare speed period cell = ((speed ⊗ double period) ⊘ (double 3_600 ⊗ cell)) ⊗ double 65_536
 
 -- F is ((capacity×T)×1000)/3600; J is (jam×L)×1000
 abbrev pub rowValues : Diagram → ℕ → Float → RowValues
 rowValues diagram period cell =
     record {
-      v = share (diagram .speed) period cell;
-      w = share (diagram .wave) period cell;
+      v = speedShare (diagram .speed) period cell;
+      w = speedShare (diagram .wave) period cell;
       capacity = ((diagram .capacity ⊗ double period) ⊗ double 1_000) ⊘ double 3_600;
       jam = (diagram .jam ⊗ cell) ⊗ double 1_000;
     }
@@ -33,10 +33,6 @@ denominator (inf negative) = 1
 denominator (fin negative m e) = down e
 
 -- the largest whole number not above a double that is not negative
-pub record LargestNotAbove (x : Float) (r : ℕ) : Type 0 where
-  pub not-above : r * denominator x ≤ numerator x
-  pub largest : numerator x < (r + 1) * denominator x
-
 abbrev pub roundedDown : Float → ℕ
 roundedDown x = numerator x / denominator x
 

@@ -46,13 +46,13 @@ valuesFit values =
     }
 
 -- what is asked of a row
-abbrev pub rowChecks : Diagram → ℕ → Float → List Check
-rowChecks diagram period cell = settingUsable period cell ∷ valuesFit (rowValues diagram period cell) ∷ []
+abbrev pub makingChecks : Diagram → ℕ → Float → List Check
+makingChecks diagram period cell = settingUsable period cell ∷ valuesFit (rowValues diagram period cell) ∷ []
 
 -- the refusal, or the row where there is none
 abbrev pub rowAs : Answer → RowValues → RowAnswer
 rowAs Accepted values = Made (rowNumbers values)
 rowAs (Refused refusal) values = NotMade refusal
 
-abbrev pub rowOf : Diagram → ℕ → Float → RowAnswer
-rowOf diagram period cell = rowAs (answer (rowChecks diagram period cell)) (rowValues diagram period cell)
+abbrev pub rowMade : Diagram → ℕ → Float → RowAnswer
+rowMade diagram period cell = rowAs (answer (makingChecks diagram period cell)) (rowValues diagram period cell)

@@ -4,7 +4,7 @@ ghost use mathlib.Core.Path.{_≡_};
 ghost use mathlib.Core.List.{[], _∷_};
 ghost use Rattle.refusals.specs.Checks.{least, answer};
 ghost use Rattle.calibrate_rows.specs.Doubles.{double, between};
-ghost use Rattle.calibrate_rows.specs.Rows.{cellSettingsFit, valuesFit, rowAs, rowOf};
+ghost use Rattle.calibrate_rows.specs.Rows.{cellSettingsFit, valuesFit, rowAs, rowMade};
 
 mod row;
 
@@ -85,7 +85,7 @@ fn round_values(values: RowValues) -> RowAnswer
 
 // Makes v, w, F and J of a diagram for the period T and the cell length L, or refuses with number 9 or 11.
 pub fn make_row(diagram: Diagram, period: u32, cell: f64) -> RowAnswer
-    ensures { λ r. ⌜ r ≡ rowOf diagram period cell ⌝ }
+    ensures { λ r. ⌜ r ≡ rowMade diagram period cell ⌝ }
 {
     if !cell_settings_fit(period, cell) {
         return RowAnswer::NotMade(Refusal::Sample(0));

@@ -3,9 +3,9 @@
 // the samples are subnormal, huge, equal and boundary values, infinities and NaNs.
 use calibrate_fit::Calibration;
 use calibrate_fit::Settings;
-use refusals::Refusal;
 use calibrate_rows::Diagram;
 use calibrate_rows::RowNumbers;
+use refusals::Refusal;
 
 // What is carried from set to set: the next draw, and the digest so far.
 struct Trials {

@@ -11,13 +11,13 @@ use lib.Seq.{sets, drop-drop}
 use Rattle.whole.specs.Search.{pick}
 use Rattle.text_digits.proofs.Stores.{stores-after}
 use Rattle.text_scans.specs.Scans.{begin, feed}
-use Rattle.text_records.specs.Reads.{readOf, readOn, rowOf, rowOn}
+use Rattle.text_records.specs.Reads.{readFrom, readOn, rowFrom, rowOn}
 use Rattle.text_scans.specs.declared.Scan.{Scan}
 use Rattle.text_scans.specs.declared.Step.{Step}
 use Rattle.text_scans.specs.declared.Step.the-variants.{More, Field, Complete, Breaks}
 use Rattle.text_records.specs.declared.Read.{Read}
 use Rattle.text_records.specs.declared.Read.the-variants as Read
-use Rattle.text_records.proofs.Pieces.{reaches-on}
+use Rattle.text_laws.proofs.Pieces.{reaches-on}
 use Rattle.refusals.specs.declared.Answer.{Answer}
 use Rattle.refusals.specs.declared.Answer.the-variants.{Accepted, Refused}
 use Rattle.layout.specs.Layout.{cells, demandLength}
@@ -70,7 +70,7 @@ module _ (table : List ℕ) where
 
   turn-follows : (room k at : ℕ) (scan : Scan) (row state sheet bytes : List ℕ) → follow table room k scan row state sheet bytes
       ≡ followDid room k (rowOn fields scan row bytes) state sheet at bytes (did (readOn fields at scan bytes) (rowAnswer table state (rowOn fields scan row bytes)))
-  unfolding follow followOf followDid did didRow readOn readOf rowOn rowOf
+  unfolding follow followOf followDid did didRow readOn readFrom rowOn rowFrom
   turn-follows room k at scan row state sheet [] = refl
   turn-follows room k at scan row state sheet (byte ∷ rest) = by (feed scan byte fields) (λ next now. turn-follows room k (at + 1) next now state sheet rest)
     where
@@ -88,8 +88,8 @@ module _ (table : List ℕ) where
           (tried (rowAnswer table state row) k row state sheet
           (after (linesOf k table state row)
           (roomy (room - length (linesOf k table state row)) (counted k) begin row (stateAfter asymmetric table state row) (sheetOf asymmetric table state row) rest)))
-          ≡ followDid room k (rowOf step (λ next now. rowOn fields next now rest) row) state sheet at (byte ∷ rest)
-          (did (readOf step (λ next. readOn fields (at + 1) next rest) (at + 1)) (rowAnswer table state (rowOf step (λ next now. rowOn fields next now rest) row)))
+          ≡ followDid room k (rowFrom step (λ next now. rowOn fields next now rest) row) state sheet at (byte ∷ rest)
+          (did (readFrom step (λ next. readOn fields (at + 1) next rest) (at + 1)) (rowAnswer table state (rowFrom step (λ next now. rowOn fields next now rest) row)))
       by (More next) same = same next row ∙ on (readOn fields (at + 1) next rest) _ (rowOn fields next row rest) (reaches-on fields (at + 1) next rest)
       by (Field f v next) same = same next (set row f v) ∙ on (readOn fields (at + 1) next rest) _ (rowOn fields next (set row f v) rest) (reaches-on fields (at + 1) next rest)
       by Complete same = row-follows room k row state sheet at byte rest (rowAnswer table state row)

@@ -13,7 +13,7 @@ use Rattle.whole.specs.Search.{pick}
 use Rattle.text_digits.specs.Lines.{CR}
 use Rattle.text_records.specs.Texts.{together}
 use Rattle.text_scans.specs.Scans.{begin, feed, untouched, lastField, ended}
-use Rattle.text_records.specs.Reads.{textFrom, textOn, numbersFrom, numbersOn, endOf}
+use Rattle.text_records.specs.Reads.{textFrom, textOn, numbersFrom, numbersOn, textAtEnd}
 use Rattle.text_scans.specs.declared.Scan.{Scan}
 use Rattle.text_scans.specs.declared.Step.{Step}
 use Rattle.text_scans.specs.declared.Step.the-variants.{More, Field, Complete, Breaks}
@@ -64,7 +64,7 @@ end-is-text : (fields n index : ℕ) (scan : Scan) (list : List ℕ) → n < 184
 unfolding fileEnd files.endOf textOn numbersOn numbersFrom ended
 end-is-text fields n index scan list h = by (feed scan CR fields) (untouched scan)
   where
-    by : (step : Step) (between : Bool) → files.endOf step between n index list ≡ (textFile (endOf (lastField step (pick between Nothing Cut)) n), sets list index (numbersFrom step (λ next. []) []))
+    by : (step : Step) (between : Bool) → files.endOf step between n index list ≡ (textFile (textAtEnd (lastField step (pick between Nothing Cut)) n), sets list index (numbersFrom step (λ next. []) []))
     by (More next) true = refl
     by (More next) false = rw (counted-on n h)
     by (Field f v next) between = rw (counted-on n h)

@@ -10,7 +10,7 @@ use Rattle.text_records.specs.Reads.{readOn}
 use Rattle.text_scans.specs.declared.Scan.{Scan}
 use Rattle.text_records.specs.declared.Read.{Read}
 use Rattle.text_records.specs.declared.Read.the-variants.{Record, Part, Broken}
-use Rattle.text_records.proofs.Pieces.{reaches-on}
+use Rattle.text_laws.proofs.Pieces.{reaches-on}
 use Rattle.refusals.specs.declared.Refusal.{Refusal}
 use Rattle.refusals.specs.declared.Answer.{Answer}
 use Rattle.refusals.specs.declared.Answer.the-variants.{Accepted, Refused}

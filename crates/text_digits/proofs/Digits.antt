@@ -11,7 +11,7 @@ use lib.ListN.{length, set, length-append}
 use lib.Seq.{sets}
 use Rattle.whole.specs.Search.{pick}
 use Rattle.text_digits.proofs.Stores.{stores-after}
-use Rattle.text_digits.specs.Writes.{twoOf}
+use Rattle.text_digits.specs.Private.{twoOf}
 use Rattle.text_digits.specs.Lines.{DIGIT, lastDigits, digitsOf}
 
 -- it matters not how many digits are asked for, so long as they are enough

@@ -11,7 +11,8 @@ use lib.ListN.{length, getD, drop, length-append, drop-of-length-le}
 use lib.Seq.{sets, drop-cons}
 use Rattle.whole.specs.Search.{pick}
 use Rattle.text_digits.specs.Lines.{CR, LF, COMMA, digitsOf, furtherText, recordText, restText, lineText}
-use Rattle.text_digits.specs.Writes.{separated, restWritten, afterRest}
+use Rattle.text_digits.specs.Writes.{restWritten, afterRest}
+use Rattle.text_digits.specs.Private.{separated}
 use Rattle.text_digits.specs.declared.Written.the-variants.{To, NoRoom}
 use Rattle.whole.proofs.Tests.{same-test}
 use Rattle.text_digits.proofs.Stores.{rest-of, stores-after}

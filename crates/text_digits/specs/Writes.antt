@@ -1,11 +1,10 @@
 -- Bytes written into a lent buffer from a position on, where they fit; else the buffer stays as it came.
-use Prim.Native.Nat.{ℕ, _+_, _*_, _/_, _%_}
-use mathlib.Core.List.{List, [], _∷_, _++_}
-use lib.Dec.{leb, eqb}
+use Prim.Native.Nat.{ℕ, _+_}
+use mathlib.Core.List.{List}
+use lib.Dec.{leb}
 use lib.ListN.{length}
 use lib.Seq.{sets}
 use Rattle.whole.specs.Search.{pick}
-use Rattle.text_digits.specs.Lines.{COMMA, DIGIT, digitsOf}
 use Rattle.text_digits.specs.declared.Written.{Written}
 use Rattle.text_digits.specs.declared.Written.the-variants.{To, NoRoom}
 
@@ -21,21 +20,3 @@ restWritten buffer at bytes = pick (leb (at + 128) (length buffer)) (To (at + le
 
 unfoldable pub afterRest : List ℕ → ℕ → List ℕ → List ℕ
 afterRest buffer at bytes = pick (leb (at + 128) (length buffer)) (sets buffer at bytes) buffer
-
--- the two digits of a number below 100
-abbrev pub twoOf : ℕ → List ℕ
-twoOf n = (DIGIT + n / 10) ∷ (DIGIT + n % 10) ∷ []
-
--- the bytes of those two, and of the four of a number below 10,000, as one number: the first byte is the lowest
-abbrev pub pairOf : ℕ → ℕ
-pairOf n = DIGIT + n / 10 + 256 * (DIGIT + n % 10)
-
-abbrev pub fourOf : ℕ → ℕ
-fourOf n = pairOf (n / 100) + 65536 * pairOf (n % 100)
-
--- the number of index i of a record: each but the first follows a comma
-abbrev pub comma : ℕ → List ℕ
-comma i = pick (eqb i 0) [] (COMMA ∷ [])
-
-unfoldable pub separated : ℕ → ℕ → List ℕ
-separated i n = comma i ++ digitsOf n

@@ -6,7 +6,7 @@ ghost use lib.ListN.{length};
 ghost use lib.Seq.{sets};
 ghost use mathlib.Core.List.{_∷_, [], _++_};
 ghost use Rattle.text_digits.specs.Lines.{COMMA, CR, LF, DIGIT, digitsOf, furtherText, restText, lineText};
-ghost use Rattle.text_digits.specs.Writes.{twoOf, pairOf, fourOf, comma, separated};
+ghost use Rattle.text_digits.specs.Private.{twoOf, twoPacked, fourPacked, comma, separated};
 
 // How many decimal digits a number has.
 fn digit_count(number: u64) -> usize
@@ -32,7 +32,7 @@ fn digit(number: u64) -> u8
 // The bytes of the two digits of a number below 100 as one number, so that they are stored at once.
 fn pair(number: u64) -> u64
     requires { ⌜ number < 100 ⌝ }
-    ensures { λ r. ⌜ r ≡ pairOf number ⌝ }
+    ensures { λ r. ⌜ r ≡ twoPacked number ⌝ }
 {
     12_336 + 256 * number - 2_559 * (number / 10)
 }
@@ -40,7 +40,7 @@ fn pair(number: u64) -> u64
 // The bytes of the four digits of a number below 10,000 as one number.
 fn four(number: u64) -> u64
     requires { ⌜ number < 10_000 ⌝ }
-    ensures { λ r. ⌜ r ≡ fourOf number ⌝ }
+    ensures { λ r. ⌜ r ≡ fourPacked number ⌝ }
 {
     let high = number / 100;
     let low = number % 100;

@@ -8,13 +8,12 @@ use borrow.Author.Tests.{ne-eqb}
 use lib.ListN.{length, length-append}
 use Rattle.text_digits.proofs.Digits.{one-digit, more-digits}
 use Rattle.text_digits.specs.Lines.{LF, CR, COMMA, DIGIT, digitsOf, furtherText, recordText, lineText}
-use Rattle.text_scans.proofs.Fed.{Fed, first-digit, next-digit, comma, return, line, breaks, fed}
+use Rattle.text_laws.proofs.Fed.{Fed, first-digit, next-digit, comma, return, line, breaks, fed}
 use Rattle.text_laws.proofs.ReadBack.{one-more, together-one-more, no-text, open-text, text-after}
-use Rattle.text_records.specs.Texts.{textOf, Small, none, and, Fits, AllFit, none-left, and-then, TextOf, left-open, together}
+use Rattle.text_records.specs.Texts.{textOf, Small, none, and, Fits, AllFit, none-left, and-then, TextOf, closed, left-open, together}
 use Rattle.text_scans.specs.Scans.{LARGEST, LONGEST, begin, feed, ended}
-use Rattle.text_records.specs.Texts as texts
 use Rattle.text_scans.specs.Scans as scans
-use Rattle.text_records.specs.Reads.{endOf, textFrom, textOn, numbersFrom, numbersOn, held, numbers}
+use Rattle.text_records.specs.Reads.{textAtEnd, textFrom, textOn, numbersFrom, numbersOn, held, numbers}
 use Rattle.text_scans.specs.declared.Scan.{Scan}
 use Rattle.text_scans.specs.declared.Scan.the-variants.{Start, Number, Return}
 use Rattle.text_scans.specs.declared.Step.{Step}
@@ -163,7 +162,7 @@ at-end fields n (Start f y) pre (m ∷ ns) (at-start is count size short small) 
 at-end fields n (Number f y v) pre ns (in-number is count size short fits small) leads = by (feed (Number f y v) CR fields) (fed fields (Number f y v) CR) refl
   where
     by : (step : Step) → Fed fields (Number f y v) CR step → feed (Number f y v) CR fields ≡ step
-        → Parts fields n (pre ++ []) (endOf (scans.lastField step Cut) n) (ns ++ numbersFrom step (λ next. []) [])
+        → Parts fields n (pre ++ []) (textAtEnd (scans.lastField step Cut) n) (ns ++ numbersFrom step (λ next. []) [])
     by step (next-digit low high some fit room) e = absurd (omega arith)
     by step (comma is-comma more room) e = absurd (omega arith)
     by step (return is-return is-last) e =
@@ -252,7 +251,7 @@ accepted fields text n holds = by (every-text fields text)
               rows = parts .rows;
               fit = parts .fit;
               count = same-count (sym holds ∙ answer) ∙ (omega arith);
-              is = subst (TextOf (parts .rows)) (sym (parts .is ∙ ap (λ (l : List ℕ). textOf (parts .rows) ++ l) none-left-over ∙ append-nil (textOf (parts .rows)))) (texts.ended (parts .rows));
+              is = subst (TextOf (parts .rows)) (sym (parts .is ∙ ap (λ (l : List ℕ). textOf (parts .rows) ++ l) none-left-over ∙ append-nil (textOf (parts .rows)))) (closed (parts .rows));
               read = parts .read ∙ ap (λ (l : List ℕ). together (parts .rows) ++ l) no-numbers ∙ append-nil (together (parts .rows));
             }
         with-tail (last row fits is answer its) =
@@ -287,7 +286,7 @@ breaks-later : (fields n place : ℕ) (s : Scan) (bytes : List ℕ) → textOn f
 unfolding textOn textFrom
 breaks-later fields n place s [] e = by (ended s fields) e
   where
-    by : (end : End) → endOf end n ≡ BrokenAt place → n < place
+    by : (end : End) → textAtEnd end n ≡ BrokenAt place → n < place
     by Nothing e = absurd (not-broken e)
     by Last e = absurd (not-broken e)
     by Cut e = omega (arith, same-place e)

@@ -12,11 +12,12 @@ use lib.ListN.{length, set, length-append}
 use lib.Seq.{sets, sets-eq, drop-length}
 use Rattle.text_digits.proofs.Digits.{one-digit, more-digits}
 use Rattle.text_digits.specs.Lines.{LF, CR, DIGIT, digitsOf, furtherText, recordText, lineText}
-use Rattle.text_scans.proofs.Fed.{feeds-first, feeds-next, feeds-comma, feeds-return, feeds-line}
-use Rattle.text_records.specs.Texts.{textOf, Small, none, and, Fits, AllFit, none-left, and-then, TextOf, ended, left-open, together}
-use Rattle.text_scans.specs.Scans.{LARGEST, LONGEST, begin, feed}
+use Rattle.text_records.proofs.Comes.{feeds-comma}
+use Rattle.text_laws.proofs.Fed.{feeds-first, feeds-next, feeds-return, feeds-line}
+use Rattle.text_records.specs.Texts.{textOf, Small, none, and, Fits, AllFit, none-left, and-then, TextOf, closed, left-open, together}
+use Rattle.text_scans.specs.Scans.{LARGEST, LONGEST, begin, feed, ended}
 use Rattle.text_scans.specs.Scans as scans
-use Rattle.text_records.specs.Reads.{readOf, readOn, rowOf, rowOn, rowAtEnd, textFrom, textOn, numbersFrom, numbersOn, held, numbers}
+use Rattle.text_records.specs.Reads.{readFrom, readOn, rowFrom, rowOn, rowAtEnd, textFrom, textOn, numbersFrom, numbersOn, held, numbers}
 use Rattle.text_scans.specs.declared.Scan.{Scan}
 use Rattle.text_scans.specs.declared.Scan.the-variants.{Start, Number, Return}
 use Rattle.text_scans.specs.declared.Step.the-variants.{More, Field}
@@ -42,7 +43,7 @@ goes-then (field e path) next = field e (goes-then path next)
 
 pub read-goes : {fields : ℕ} {s t : Scan} {row later a past : List ℕ} → Goes fields s row a past t later → (at : ℕ) (rest : List ℕ)
     → readOn fields at s (a ++ rest) ≡ readOn fields (at + length a) t rest
-unfolding readOn readOf
+unfolding readOn readFrom
 read-goes {fields} {s} stays at rest = ap (λ (k : ℕ). readOn fields k s rest) (omega arith)
 read-goes {fields} {t = t} (more {bytes = bytes} e path) at rest =
     rw e (read-goes path (at + 1) rest ∙ ap (λ (k : ℕ). readOn fields k t rest) (omega arith))
@@ -51,7 +52,7 @@ read-goes {fields} {t = t} (field {bytes = bytes} e path) at rest =
 
 pub row-goes : {fields : ℕ} {s t : Scan} {row later a past : List ℕ} → Goes fields s row a past t later → (rest : List ℕ)
     → rowOn fields s row (a ++ rest) ≡ rowOn fields t later rest
-unfolding rowOn rowOf
+unfolding rowOn rowFrom
 row-goes stays rest = refl
 row-goes (more e path) rest = rw e (row-goes path rest)
 row-goes (field e path) rest = rw e (row-goes path rest)
@@ -179,7 +180,7 @@ line-then list rest = append-assoc (recordText list) (CR ∷ LF ∷ []) rest
 
 pub record-reads-back : (fields at : ℕ) (list row rest : List ℕ) → Fits fields list
     → readOn fields at begin (lineText list ++ rest) ≡ Record (at + length (lineText list))
-unfolding readOn readOf lineText
+unfolding readOn readFrom lineText
 record-reads-back fields at list row rest fits =
     let to = record-reaches fields list row fits in
     let size = length-append (recordText list) (CR ∷ LF ∷ []) in
@@ -189,7 +190,7 @@ record-reads-back fields at list row rest fits =
 
 pub row-reads-back : (fields : ℕ) (list row rest : List ℕ) → Fits fields list → length row ≡ fields
     → rowOn fields begin row (lineText list ++ rest) ≡ list
-unfolding rowOn rowOf
+unfolding rowOn rowFrom
 row-reads-back fields list row rest fits same =
     let to = record-reaches fields list row fits in
     rw (line-then list rest)
@@ -201,11 +202,11 @@ row-reads-back fields list row rest fits same =
 pub record OpenReadsBack (fields at : ℕ) (list row : List ℕ) : Type 0 where
   pub scan : Scan
   pub reads : readOn fields at begin (recordText list) ≡ Part scan
-  pub ends : scans.ended scan fields ≡ Last
+  pub ends : ended scan fields ≡ Last
   pub holds : rowAtEnd fields scan (rowOn fields begin row (recordText list)) ≡ list
 
 pub open-reads-back : (fields at : ℕ) (list row : List ℕ) → Fits fields list → length row ≡ fields → OpenReadsBack fields at list row
-unfolding readOn rowOn rowOf rowAtEnd scans.ended
+unfolding readOn rowOn rowFrom rowAtEnd ended
 open-reads-back fields at list row fits same =
     let to = record-reaches fields list row fits in
     let none = append-nil (recordText list) in
@@ -265,7 +266,7 @@ last-fits fields [] row (and-then fits fit) = (none-left, fits)
 last-fits fields (first ∷ rows) row (and-then fits fit) = let more = last-fits fields rows row fit in (and-then fits (more .0), more .1)
 
 pub no-text : (fields n : ℕ) → textOn fields n begin [] ≡ Holds n
-unfolding textOn scans.ended feed scans.atStart
+unfolding textOn ended feed scans.atStart
 no-text fields n = refl
 
 pub no-text-numbers : (fields : ℕ) → numbersOn fields begin [] ≡ []
@@ -273,7 +274,7 @@ unfolding numbersOn numbersFrom feed scans.atStart
 no-text-numbers fields = refl
 
 pub open-text : (fields n : ℕ) (list : List ℕ) → Fits fields list → textOn fields n begin (recordText list) ≡ Holds (n + 1)
-unfolding textOn scans.ended
+unfolding textOn ended
 open-text fields n list fits =
     let to = record-reaches fields list [] fits in
     (rw (append-nil (recordText list)) at (text-goes (to .path) n [])) ∙ (rw (to .close))
@@ -287,7 +288,7 @@ open-numbers fields list fits =
 pub reads-back : (fields : ℕ) (rows : List (List ℕ)) (text : List ℕ) → AllFit fields rows → TextOf rows text
     → (held fields text ≡ Holds (length rows)) × (numbers fields text ≡ together rows)
 unfolding held numbers
-reads-back fields rows text fit (ended all) =
+reads-back fields rows text fit (closed all) =
     let none = append-nil (textOf all) in (
       (rw none at (texts-after fields 0 all [] fit)) ∙ no-text fields (0 + length all) ∙ ap Holds (omega arith),
       (rw (none, no-text-numbers) at (numbers-of-texts fields all [] fit)) ∙ append-nil (together all),

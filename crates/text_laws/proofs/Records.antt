@@ -10,13 +10,13 @@ use lib.Dec.{eqb}
 use lib.ListN.{length, length-append}
 use Rattle.whole.specs.Search.{pick}
 use Rattle.text_digits.specs.Lines.{CR, recordText, lineText}
-use Rattle.text_scans.proofs.Fed.{Fed, next-digit, comma, return, breaks, fed}
+use Rattle.text_laws.proofs.Fed.{Fed, next-digit, comma, return, breaks, fed}
 use Rattle.text_laws.proofs.ReadBack.{row-reads-back}
 use Rattle.text_laws.proofs.Accepted.{SoFar, at-start, in-number, at-return, After, one-byte-on, nothing-yet, closes, record-and, startText}
 use Rattle.text_records.specs.Texts.{Fits}
 use Rattle.text_scans.specs.Scans.{begin, feed, ended}
 use Rattle.text_scans.specs.Scans as scans
-use Rattle.text_records.specs.Reads.{readOf, readOn, rowOn}
+use Rattle.text_records.specs.Reads.{readFrom, readOn, rowOn}
 use Rattle.text_scans.specs.declared.Scan.{Scan}
 use Rattle.text_scans.specs.declared.Scan.the-variants.{Start, Number, Return}
 use Rattle.text_scans.specs.declared.Step.{Step}
@@ -42,7 +42,7 @@ record Line (fields at : ℕ) (pre bytes : List ℕ) (after : ℕ) : Type 0 wher
   ends : after + length pre ≡ at + length (lineText row)
 
 line-found : (fields at after : ℕ) (s : Scan) (pre ns bytes : List ℕ) → SoFar fields s pre ns → readOn fields at s bytes ≡ Record after → Line fields at pre bytes after
-unfolding readOn readOf After
+unfolding readOn readFrom After
 line-found fields at after s pre ns [] so e = absurd (not-record e)
 line-found fields at after s pre ns (b ∷ bytes) so e =
     by (feed s b fields) (one-byte-on so (fed fields s b)) (λ t ms next h. line-found fields (at + 1) after t (pre ++ b ∷ []) ms bytes next h) e
@@ -59,7 +59,7 @@ line-found fields at after s pre ns (b ∷ bytes) so e =
 
     by : (step : Step) → After fields step pre b ns
         → ((t : Scan) (ms : List ℕ) → SoFar fields t (pre ++ b ∷ []) ms → readOn fields (at + 1) t bytes ≡ Record after → Line fields (at + 1) (pre ++ b ∷ []) bytes after)
-        → readOf step (λ next. readOn fields (at + 1) next bytes) (at + 1) ≡ Record after → Line fields at pre (b ∷ bytes) after
+        → readFrom step (λ next. readOn fields (at + 1) next bytes) (at + 1) ≡ Record after → Line fields at pre (b ∷ bytes) after
     by (More t) next again e = on (again t ns next e)
     by (Field f v t) next again e = on (again t (ns ++ v ∷ []) next e)
     by Complete next again e =
@@ -107,7 +107,7 @@ broken-not-part : {t : Scan} → Broken ≡ Part t → ⊥
 broken-not-part e = let z : _≡_ {A = ℕ} 0 1 = cc in omega arith
 
 stands : (fields at : ℕ) (s t : Scan) (pre ns bytes : List ℕ) → SoFar fields s pre ns → readOn fields at s bytes ≡ Part t → Standing fields (pre ++ bytes) t
-unfolding readOn readOf After
+unfolding readOn readFrom After
 stands fields at s t pre ns [] so e = record { past = ns; so = rw (append-nil pre, sym (same-scan e)) so }
 stands fields at s t pre ns (b ∷ bytes) so e =
     by (feed s b fields) (one-byte-on so (fed fields s b)) (λ u ms next h. stands fields (at + 1) u t (pre ++ b ∷ []) ms bytes next h) e
@@ -117,7 +117,7 @@ stands fields at s t pre ns (b ∷ bytes) so e =
 
     by : (step : Step) → After fields step pre b ns
         → ((u : Scan) (ms : List ℕ) → SoFar fields u (pre ++ b ∷ []) ms → readOn fields (at + 1) u bytes ≡ Part t → Standing fields ((pre ++ b ∷ []) ++ bytes) t)
-        → readOf step (λ next. readOn fields (at + 1) next bytes) (at + 1) ≡ Part t → Standing fields (pre ++ b ∷ bytes) t
+        → readFrom step (λ next. readOn fields (at + 1) next bytes) (at + 1) ≡ Part t → Standing fields (pre ++ b ∷ bytes) t
     by (More u) next again e = on (again u ns next e)
     by (Field f v u) next again e = on (again u (ns ++ v ∷ []) next e)
     by Complete next again e = absurd (not-part e)

@@ -1,19 +1,18 @@
 -- Reading on from one place comes to what reading on from a later one comes to: step by step, and one after the other. Assumes nothing.
 use Prim.Native.Nat.{ℕ, _+_, _-_, _*_, _≤_, _<_}
-use mathlib.Core.Path.{_≡_, refl, _∙_}
-use mathlib.Core.Bool.{true}
+use mathlib.Core.Path.{_≡_, refl, sym, _∙_}
+use mathlib.Core.Bool.{Bool, false, not}
 use mathlib.Core.List.{List}
 use native.Mathlib.Omega.{arith}
-use borrow.Author.Tests.{lt-ltb, le-leb, ne-eqb, leb-true}
+use borrow.Author.Tests.{lt-ltb, le-leb, ne-eqb, leb-true, not-false}
 use lib.Dec.{leb}
 use lib.ListN.{length, getD, drop, set}
 use Rattle.text_digits.proofs.Stores.{rest-of}
 use Rattle.text_digits.specs.Lines.{COMMA, DIGIT}
 use Rattle.whole.proofs.Tests.{both-hold}
-use Rattle.text_scans.proofs.Fed.{feeds-comma}
 use Rattle.text_scans.specs.Scans.{LONGEST, isDigit, atStart, longer, inNumber, feed}
-use Rattle.text_records.specs.Reads.{readOf, readOn, rowOf, rowOn}
-use Rattle.text_records.specs.Fields.{Comes, DigitsRead, FieldRead, AfterFirst, FromStart, FieldsRead}
+use Rattle.text_records.specs.Reads.{readFrom, readOn, rowFrom, rowOn}
+use Rattle.text_records.specs.Private.{Comes, DigitsRead, FieldRead, AfterFirst, FromStart, FieldsRead}
 use Rattle.text_records.specs.declared.Digits.{Digits}
 use Rattle.text_records.specs.declared.Begun.{Begun}
 use Rattle.text_records.specs.declared.Begun.the-variants.{Whole, Other}
@@ -22,28 +21,33 @@ use Rattle.text_scans.specs.declared.Scan.the-variants.{Start, Number}
 use Rattle.text_scans.specs.declared.Step.{Step}
 use Rattle.text_scans.specs.declared.Step.the-variants.{More, Field}
 
+-- a comma after a field that is not the last
+pub feeds-comma : (fields f y v : ℕ) → f + 1 < fields → y < LONGEST → feed (Number f y v) COMMA fields ≡ Field f v (Start (f + 1) (y + 1))
+unfolding feed inNumber
+feeds-comma fields f y v more room = rw (lt-ltb (f + 1) fields more, lt-ltb y 16384 room)
+
 pub stays : (chunk : List ℕ) (fields at : ℕ) (scan : Scan) (row : List ℕ) → Comes chunk fields at scan row at scan row
-stays chunk fields at scan row = record { answer = refl; stores = refl }
+stays chunk fields at scan row = record { finds = refl; stores = refl }
 
 module _ {chunk : List ℕ} {fields at : ℕ} {scan : Scan} {row : List ℕ} {to : ℕ} {next : Scan} {later : List ℕ} where
   pub then : {after : ℕ} {last : Scan} {end : List ℕ} → Comes chunk fields at scan row to next later → Comes chunk fields to next later after last end
       → Comes chunk fields at scan row after last end
-  then first second = record { answer = first .answer ∙ second .answer; stores = first .stores ∙ second .stores }
+  then first second = record { finds = first .finds ∙ second .finds; stores = first .stores ∙ second .stores }
 
 module _ (chunk : List ℕ) (fields at : ℕ) (scan : Scan) (row : List ℕ) (h : at < length chunk) where
   one-byte : (step : Step) → feed scan (getD chunk at 0) fields ≡ step
-      → (readOn fields at scan (drop at chunk) ≡ readOf step (λ next. readOn fields (at + 1) next (drop (at + 1) chunk)) (at + 1))
-      × (rowOn fields scan row (drop at chunk) ≡ rowOf step (λ next now. rowOn fields next now (drop (at + 1) chunk)) row)
+      → (readOn fields at scan (drop at chunk) ≡ readFrom step (λ next. readOn fields (at + 1) next (drop (at + 1) chunk)) (at + 1))
+      × (rowOn fields scan row (drop at chunk) ≡ rowFrom step (λ next now. rowOn fields next now (drop (at + 1) chunk)) row)
   unfolding readOn rowOn
   one-byte step e = (rw (rest-of chunk at h, e), rw (rest-of chunk at h, e))
 
   pub byte-more : (next : Scan) → feed scan (getD chunk at 0) fields ≡ More next → Comes chunk fields at scan row (at + 1) next row
-  unfolding readOf rowOf
-  byte-more next e = let by = one-byte (More next) e in record { answer = by .0; stores = by .1 }
+  unfolding readFrom rowFrom
+  byte-more next e = let by = one-byte (More next) e in record { finds = by .0; stores = by .1 }
 
   pub byte-field : (field number : ℕ) (next : Scan) → feed scan (getD chunk at 0) fields ≡ Field field number next → Comes chunk fields at scan row (at + 1) next (set row field number)
-  unfolding readOf rowOf
-  byte-field field number next e = let by = one-byte (Field field number next) e in record { answer = by .0; stores = by .1 }
+  unfolding readFrom rowFrom
+  byte-field field number next e = let by = one-byte (Field field number next) e in record { finds = by .0; stores = by .1 }
 
 -- the first digit of a field, a digit after others, and the comma after them
 module _ (chunk : List ℕ) (at field bytes : ℕ) (h : at < length chunk) (room : bytes < LONGEST) where
@@ -68,8 +72,11 @@ module _ (chunk : List ℕ) (at field bytes : ℕ) (h : at < length chunk) (room
       byte-field chunk fields at (Number field bytes value) row h field value (Start (field + 1) (bytes + 1))
       (rw is (feeds-comma fields field bytes value more room))
 
-pub is-digit : (byte : ℕ) → isDigit byte ≡ true → (DIGIT ≤ byte) × (byte ≤ DIGIT + 9)
-is-digit byte e = let parts = both-hold (leb 48 byte) (leb byte 57) e in (leb-true 48 byte (parts .0), leb-true byte 57 (parts .1))
+-- a byte whose test for a digit held
+pub is-digit : (byte : ℕ) {r : Bool} → r ≡ isDigit byte → not r ≡ false → (DIGIT ≤ byte) × (byte ≤ DIGIT + 9)
+is-digit byte e h =
+    let parts = both-hold (leb 48 byte) (leb byte 57) (sym e ∙ not-false _ h) in
+    (leb-true 48 byte (parts .0), leb-true byte 57 (parts .1))
 
 -- Digits after the first, one after the other.
 
@@ -101,7 +108,7 @@ pub comma-after : {chunk : List ℕ} {from stop first : ℕ} {r : Digits} → Di
     → FieldRead chunk from stop (λ field bytes. Number field bytes first) (r .value) (r .next + 1)
 comma-after {chunk} {from} {stop} {first} {r} digits h within is =
     record {
-      on = omega (arith, digits .starts);
+      further = omega (arith, digits .starts);
       ends = omega arith;
       reads = λ fields field bytes row more short.
           let one : bytes + (r .next + 1 - from) ≡ bytes + (r .next - from) + 1 = omega (arith, digits .starts) in
@@ -114,7 +121,7 @@ module _ (chunk : List ℕ) (from stop : ℕ) (within : stop ≤ length chunk) (
   pub only-digit : 2 ≤ stop - from → getD chunk (from + 1) 0 ≡ COMMA → FieldRead chunk from stop (λ field bytes. Start field bytes) (getD chunk from 0 - DIGIT) (from + 2)
   only-digit h is =
       record {
-        on = omega arith;
+        further = omega arith;
         ends = omega arith;
         reads = λ fields field bytes row more short.
             let two : bytes + (from + 2 - from) ≡ bytes + 1 + 1 = omega arith in
@@ -127,13 +134,13 @@ module _ (chunk : List ℕ) (from stop : ℕ) (within : stop ≤ length chunk) (
   pub first-digit-then : (r : Begun) → from < stop → AfterFirst chunk (from + 1) stop (getD chunk from 0 - DIGIT) r → FromStart chunk from stop r
   first-digit-then (Whole number next) h rest =
       record {
-        on = omega (arith, rest .on);
+        further = omega (arith, rest .further);
         ends = rest .ends;
         reads = λ fields field bytes row more short.
-            let one : bytes + (next - from) ≡ bytes + 1 + (next - (from + 1)) = omega (arith, rest .on) in
+            let one : bytes + (next - from) ≡ bytes + 1 + (next - (from + 1)) = omega (arith, rest .further) in
             rw one
-            (then (first-digit-read chunk from field bytes (omega arith) (omega (arith, rest .on)) fields row (digit .0) (digit .1))
-            (rest .reads fields field (bytes + 1) row more (omega (arith, rest .on))));
+            (then (first-digit-read chunk from field bytes (omega arith) (omega (arith, rest .further)) fields row (digit .0) (digit .1))
+            (rest .reads fields field (bytes + 1) row more (omega (arith, rest .further))));
       }
   first-digit-then Other h rest = rest
 
@@ -152,10 +159,10 @@ pub one-field-more : {chunk : List ℕ} {from stop field : ℕ} {row₀ row : Li
     → FieldsRead chunk from stop field row₀ (set row field' number) (record { field = field' + 1; at = next })
 one-field-more {from = from} {stop = stop} {row₀ = row₀} {row = row} {field' = field'} {at = at} {next = next} before more one =
     record {
-      starts = omega (arith, before .starts, one .on);
+      starts = omega (arith, before .starts, one .further);
       ends = one .ends;
       reads = λ bytes short.
-          let sum : bytes + (next - from) ≡ bytes + (at - from) + (next - at) = omega (arith, before .starts, one .on) in
+          let sum : bytes + (next - from) ≡ bytes + (at - from) + (next - at) = omega (arith, before .starts, one .further) in
           rw sum
-          (then (before .reads bytes short) (one .reads (length row₀) field' (bytes + (at - from)) row more (omega (arith, before .starts, one .on, one .ends))));
+          (then (before .reads bytes short) (one .reads (length row₀) field' (bytes + (at - from)) row more (omega (arith, before .starts, one .further, one .ends))));
     }

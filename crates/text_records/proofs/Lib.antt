@@ -1,4 +1,3 @@
 pub mod Comes
 pub mod Reading
-pub mod Pieces
 pub mod Settled

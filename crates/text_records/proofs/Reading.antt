@@ -9,7 +9,7 @@ use lib.ListN.{length, getD, drop, set, length-set, drop-of-length-le}
 use lib.Seq.{sets}
 use Rattle.text_digits.proofs.Stores.{rest-of}
 use Rattle.text_scans.specs.Scans.{begin, atStart, feed, untouched, ended}
-use Rattle.text_records.specs.Reads.{readOf, readOn, rowOf, rowOn, endOf, textFrom, textOn, numbersFrom, numbersOn, held, numbers}
+use Rattle.text_records.specs.Reads.{readFrom, readOn, rowFrom, rowOn, textAtEnd, textFrom, textOn, numbersFrom, numbersOn, held, numbers}
 use Rattle.text_scans.specs.declared.Scan.{Scan}
 use Rattle.text_scans.specs.declared.Scan.the-variants.{Start, Number, Return}
 use Rattle.text_scans.specs.declared.Step.{Step}
@@ -52,8 +52,8 @@ opens chunk from scan row = record { answer = refl; stores = refl; same = refl }
 
 module _ {chunk : List ℕ} {from : ℕ} {scan₀ : Scan} {row₀ : List ℕ} {at : ℕ} {scan : Scan} {row : List ℕ} where
   one-byte : OneRecord chunk from scan₀ row₀ at scan row → at < length chunk → (step : Step) → Does chunk at scan (length row) step
-      → (readOf step (λ next. readOn (length row₀) (at + 1) next (drop (at + 1) chunk)) (at + 1) ≡ readOn (length row₀) from scan₀ (drop from chunk))
-      × (rowOf step (λ next now. rowOn (length row₀) next now (drop (at + 1) chunk)) row ≡ rowOn (length row₀) scan₀ row₀ (drop from chunk))
+      → (readFrom step (λ next. readOn (length row₀) (at + 1) next (drop (at + 1) chunk)) (at + 1) ≡ readOn (length row₀) from scan₀ (drop from chunk))
+      × (rowFrom step (λ next now. rowOn (length row₀) next now (drop (at + 1) chunk)) row ≡ rowOn (length row₀) scan₀ row₀ (drop from chunk))
   unfolding readOn rowOn
   one-byte here h step e =
       let does : step ≡ feed scan (getD chunk at 0) (length row₀) = rw (here .same) at e in
@@ -61,26 +61,26 @@ module _ {chunk : List ℕ} {from : ℕ} {scan₀ : Scan} {row₀ : List ℕ} {a
 
   pub goes-on : {next : Scan} {step : Step} → OneRecord chunk from scan₀ row₀ at scan row → at < length chunk → Does chunk at scan (length row) step → step ≡ More next
       → OneRecord chunk from scan₀ row₀ (at + 1) next row
-  unfolding readOf rowOf
+  unfolding readFrom rowFrom
   goes-on {step = step} here h e is =
       let by = rw is at (one-byte here h step e) in
       record { answer = by .0; stores = by .1; same = here .same }
 
   pub stores-a-field : {next : Scan} {step : Step} {field number : ℕ} {later : List ℕ} → OneRecord chunk from scan₀ row₀ at scan row → at < length chunk → Does chunk at scan (length row) step
       → step ≡ Field field number next → later ≡ set row field number → OneRecord chunk from scan₀ row₀ (at + 1) next later
-  unfolding readOf rowOf
+  unfolding readFrom rowFrom
   stores-a-field {step = step} {field = field} {number = number} here h e is put =
       let by = rw is at (one-byte here h step e) in
       rw put (record { answer = by .0; stores = by .1; same = length-set row field number ∙ here .same })
 
   pub completes : {step : Step} → OneRecord chunk from scan₀ row₀ at scan row → at < length chunk → Does chunk at scan (length row) step → step ≡ Complete
       → (Record (at + 1) ≡ readOn (length row₀) from scan₀ (drop from chunk)) × (row ≡ rowOn (length row₀) scan₀ row₀ (drop from chunk))
-  unfolding readOf rowOf
+  unfolding readFrom rowFrom
   completes {step} here h e is = rw is at (one-byte here h step e)
 
   pub breaks : {step : Step} → OneRecord chunk from scan₀ row₀ at scan row → at < length chunk → Does chunk at scan (length row) step → step ≡ Breaks
       → (Broken ≡ readOn (length row₀) from scan₀ (drop from chunk)) × (row ≡ rowOn (length row₀) scan₀ row₀ (drop from chunk))
-  unfolding readOf rowOf
+  unfolding readFrom rowFrom
   breaks {step} here h e is = rw is at (one-byte here h step e)
 
   pub used-up : OneRecord chunk from scan₀ row₀ at scan row → length chunk ≤ at
@@ -137,7 +137,7 @@ module _ {fields : ℕ} {text : List ℕ} {scan : Scan} {records i : ℕ} where
   unfolding textFrom
   check-breaks {step} here h e is = rw is at (check-byte here h step e)
 
-  pub check-ends : {end : End} → Checking fields text scan records i → length text ≤ i → end ≡ ended scan fields → endOf end records ≡ held fields text
+  pub check-ends : {end : End} → Checking fields text scan records i → length text ≤ i → end ≡ ended scan fields → textAtEnd end records ≡ held fields text
   unfolding textOn
   check-ends here h e =
       let none : drop i text ≡ [] = drop-of-length-le text h in

@@ -1,3 +1,3 @@
 pub mod Texts
 pub mod Reads
-pub mod Fields
+pub mod Private

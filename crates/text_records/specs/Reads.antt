@@ -20,38 +20,38 @@ use Rattle.text_records.specs.declared.Text.the-variants.{Holds, BrokenA
 -- One record, from where its reading stands; the bytes start at index `at` of their chunk. Reading stops after the record's
 -- end, and where the record breaks.
 
-unfoldable pub readOf : Step → (Scan → Read) → ℕ → Read
-readOf (More next) on after = on next
-readOf (Field field number next) on after = on next
-readOf Complete on after = Record after
-readOf Breaks on after = Broken
+unfoldable pub readFrom : Step → (Scan → Read) → ℕ → Read
+readFrom (More next) on after = on next
+readFrom (Field field number next) on after = on next
+readFrom Complete on after = Record after
+readFrom Breaks on after = Broken
 
 unfoldable pub readOn : ℕ → ℕ → Scan → List ℕ → Read
 readOn fields at scan [] = Part scan
 readOn fields at scan (byte ∷ rest) =
-    readOf (feed scan byte fields) (λ next. readOn fields (at + 1) next rest) (at + 1)
+    readFrom (feed scan byte fields) (λ next. readOn fields (at + 1) next rest) (at + 1)
 
 -- what the record's row holds then: each number goes to its field's index
-unfoldable pub rowOf : Step → (Scan → List ℕ → List ℕ) → List ℕ → List ℕ
-rowOf (More next) on row = on next row
-rowOf (Field field number next) on row = on next (set row field number)
-rowOf Complete on row = row
-rowOf Breaks on row = row
+unfoldable pub rowFrom : Step → (Scan → List ℕ → List ℕ) → List ℕ → List ℕ
+rowFrom (More next) on row = on next row
+rowFrom (Field field number next) on row = on next (set row field number)
+rowFrom Complete on row = row
+rowFrom Breaks on row = row
 
 unfoldable pub rowOn : ℕ → Scan → List ℕ → List ℕ → List ℕ
 rowOn fields scan row [] = row
-rowOn fields scan row (byte ∷ rest) = rowOf (feed scan byte fields) (λ next now. rowOn fields next now rest) row
+rowOn fields scan row (byte ∷ rest) = rowFrom (feed scan byte fields) (λ next now. rowOn fields next now rest) row
 
 -- what the row holds when the text ends
 unfoldable pub rowAtEnd : ℕ → Scan → List ℕ → List ℕ
-rowAtEnd fields scan row = rowOf (feed scan CR fields) (λ next now. now) row
+rowAtEnd fields scan row = rowFrom (feed scan CR fields) (λ next now. now) row
 
 -- A whole text of records of so many fields each, with n records complete before these bytes.
 
-abbrev pub endOf : End → ℕ → Text
-endOf Nothing n = Holds n
-endOf Last n = Holds (n + 1)
-endOf Cut n = BrokenAt (n + 1)
+abbrev pub textAtEnd : End → ℕ → Text
+textAtEnd Nothing n = Holds n
+textAtEnd Last n = Holds (n + 1)
+textAtEnd Cut n = BrokenAt (n + 1)
 
 unfoldable pub textFrom : Step → (Scan → Text) → Text → ℕ → Text
 textFrom (More next) on another n = on next
@@ -60,7 +60,7 @@ textFrom Complete on another n = another
 textFrom Breaks on another n = BrokenAt (n + 1)
 
 unfoldable pub textOn : ℕ → ℕ → Scan → List ℕ → Text
-textOn fields n scan [] = endOf (ended scan fields) n
+textOn fields n scan [] = textAtEnd (ended scan fields) n
 textOn fields n scan (byte ∷ rest) =
     textFrom (feed scan byte fields) (λ next. textOn fields n next rest) (textOn fields (n + 1) begin rest) n
 
@@ -90,10 +90,10 @@ fit fields room (Holds n) = pick (leb (n * fields) room) (Holds n) TooLong
 fit fields room (BrokenAt place) = BrokenAt place
 fit fields room TooLong = TooLong
 
-abbrev pub stored : Text → List ℕ → List ℕ → List ℕ
-stored (Holds n) list into = sets into 0 list
-stored (BrokenAt place) list into = into
-stored TooLong list into = into
+abbrev pub afterReading : Text → List ℕ → List ℕ → List ℕ
+afterReading (Holds n) list into = sets into 0 list
+afterReading (BrokenAt place) list into = into
+afterReading TooLong list into = into
 
 -- A text of exactly one record: a missing one breaks as record 1, and anything after it as record 2.
 

@@ -34,5 +34,5 @@ pub data AllFit (fields : ℕ) : List (List ℕ) → Type 0 where
 
 -- the text of records, the last end optional
 pub data TextOf : List (List ℕ) → List ℕ → Type 0 where
-  ended : (rows : List (List ℕ)) → TextOf rows (textOf rows)
+  closed : (rows : List (List ℕ)) → TextOf rows (textOf rows)
   left-open : (rows : List (List ℕ)) (row : List ℕ) → TextOf (rows ++ row ∷ []) (textOf rows ++ recordText row)

@@ -3,7 +3,7 @@
 ghost use Prim.Native.Nat.{_+_, _-_, _≤_, _<_};
 ghost use lib.ListN.{length};
 ghost use Rattle.text_scans.specs.Scans.{LONGEST};
-ghost use Rattle.text_records.specs.Fields.{Comes, DigitsRead, AfterFirst, FromStart, FieldsRead};
+ghost use Rattle.text_records.specs.Private.{Comes, DigitsRead, AfterFirst, FromStart, FieldsRead};
 use crate::Begun;
 use crate::Digits;
 use crate::Opened;

@@ -3,18 +3,18 @@
 ghost use mathlib.Core.Path.{_≡_};
 ghost use lib.ListN.{length, drop};
 ghost use Rattle.text_scans.specs.Scans.{feed, ended};
-ghost use Rattle.text_records.specs.Reads.{readOn, rowOn, rowAtEnd, held, numbers, fit, stored, one};
+ghost use Rattle.text_records.specs.Reads.{readOn, rowOn, rowAtEnd, held, numbers, fit, afterReading, one};
 
 mod fields;
 mod store;
 mod whole_text;
 
 use fields::open_fields;
+use store::put;
 use text_scans::End;
 use text_scans::Scan;
 use text_scans::Step;
 use text_scans::feed;
-use store::put;
 use whole_text::check_text;
 use whole_text::fit;
 use whole_text::one;
@@ -136,7 +136,7 @@ pub fn finish(scan: Scan, row: &mut [u32]) -> End
 // Reads a whole text of records of so many fields each into a list, one record after the other.
 pub fn read_text(text: &[u8], fields: usize, list: &mut [u32]) -> Text
     ensures answer { λ r. ⌜ r ≡ fit fields (length (now (list .entry))) (held fields (now (text .entry))) ⌝ }
-    ensures stores { λ r. ⌜ now (list .exit) ≡ stored r (numbers fields (now (text .entry))) (now (list .entry)) ⌝ }
+    ensures stores { λ r. ⌜ now (list .exit) ≡ afterReading r (numbers fields (now (text .entry))) (now (list .entry)) ⌝ }
 {
     let found = fit(fields, list.len(), check_text(text, fields));
     match found {
@@ -152,7 +152,7 @@ pub fn read_text(text: &[u8], fields: usize, list: &mut [u32]) -> Text
 // Reads a text of exactly one record, of as many fields as the row has numbers.
 pub fn read_one(text: &[u8], row: &mut [u32]) -> Text
     ensures answer { λ r. ⌜ r ≡ one (held (length (now (row .entry))) (now (text .entry))) ⌝ }
-    ensures stores { λ r. ⌜ now (row .exit) ≡ stored r (numbers (length (now (row .entry))) (now (text .entry))) (now (row .entry)) ⌝ }
+    ensures stores { λ r. ⌜ now (row .exit) ≡ afterReading r (numbers (length (now (row .entry))) (now (text .entry))) (now (row .entry)) ⌝ }
 {
     let found = one(check_text(text, row.len()));
     match found {

@@ -1,10 +1,10 @@
 // Reads good and damaged texts through the public functions and writes what was found, which is held to the stored
 // output. Each list holds 7s before.
 use text_digits::Written;
-use text_scans::End;
-use text_scans::Scan;
 use text_records::Read;
 use text_records::Text;
+use text_scans::End;
+use text_scans::Scan;
 
 fn wide(number: u32) -> u64 {
     number as u64

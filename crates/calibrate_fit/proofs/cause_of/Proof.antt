@@ -13,17 +13,28 @@ returns c = λ g lanes. rw (fails (c .before .finite .ensures) (c .if1 .taken))
 
 returns-2 : tie.Need-returns-2
 unfolding sampleOf
-returns-2 c = λ g lanes. rw (holds (c .before .before .before .finite .ensures) (c .before .before .if1 .left), fails (c .before .flow-in-range .ensures) (c .if2 .taken))
+returns-2 c = let first = c .before .before in
+    let finite-flow = holds (first .before .finite .ensures) (first .if1 .left) in
+    λ g lanes. rw (finite-flow, fails (c .before .flow-in-range .ensures) (c .if2 .taken))
 
 returns-3 : tie.Need-returns-3
 unfolding sampleOf
-returns-3 c = λ g lanes. rw (holds (c .before .before .before .before .before .finite .ensures) (c .before .before .before .before .if1 .left), holds (c .before .before .before .flow-in-range .ensures) (c .before .before .if2 .left), fails (c .before .finite2 .ensures) (c .if3 .taken))
+returns-3 c = let second = c .before .before in
+    let first = second .before .before in
+    let finite-flow = holds (first .before .finite .ensures) (first .if1 .left) in
+    let in-flow = holds (second .before .flow-in-range .ensures) (second .if2 .left) in
+    λ g lanes. rw (finite-flow, in-flow, fails (c .before .finite2 .ensures) (c .if3 .taken))
 
 returns-4 : tie.Need-returns-4
 unfolding sampleOf
-returns-4 c = let in-flow = holds (c .before .before .before .flow-in-range .ensures) (c .before .before .if2 .left) in
-    let out : occupancyInRange (c .before .before .before .before .before .before .args .occupancy) ≡ false = rw in-flow at (c .before .before .before .before .before .before .pre) in
-    λ g lanes. rw (holds (c .before .before .before .before .before .finite .ensures) (c .before .before .before .before .if1 .left), in-flow, holds (c .before .finite2 .ensures) (c .if3 .left), out)
+returns-4 c = let second = c .before .before in
+    let first = second .before .before in
+    let start = first .before .before in
+    let finite-flow = holds (first .before .finite .ensures) (first .if1 .left) in
+    let in-flow = holds (second .before .flow-in-range .ensures) (second .if2 .left) in
+    let finite-occupancy = holds (c .before .finite2 .ensures) (c .if3 .left) in
+    let out : occupancyInRange (start .args .occupancy) ≡ false = rw in-flow at (start .pre) in
+    λ g lanes. rw (finite-flow, in-flow, finite-occupancy, out)
 
 pub cause-of-spec : {M : Type 1} → statement M
 cause-of-spec =

@@ -17,8 +17,10 @@ returns c = sym (c .cause-of .ensures _ _)
 
 returns-2 : tie.Need-returns-2
 unfolding sampleOf
-returns-2 c = let given = c .before .before .before .before .args in
-    let in-range = both-hold _ _ (holds (ap₂ (λ flow occupancy. flow && occupancy) (c .before .before .before .flow-in-range .ensures) (c .before .before .occupancy-in-range .ensures)) (c .before .if1 .left)) in
+returns-2 c = let tests = c .before .before in
+    let given = tests .before .before .args in
+    let both = ap₂ (λ flow occupancy. flow && occupancy) (tests .before .flow-in-range .ensures) (tests .occupancy-in-range .ensures) in
+    let in-range = both-hold _ _ (holds both (c .before .if1 .left)) in
     rw (flow-is-finite (given .flow) (in-range .0), in-range .0, occupancy-is-finite (given .occupancy) (in-range .1), in-range .1) (c .good-sample .ensures)
 
 pub read-sample-spec : {M : Type 1} → statement M

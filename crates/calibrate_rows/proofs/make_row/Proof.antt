@@ -16,11 +16,13 @@ returns c = let given = c .before .before .args in
     (test-fails Sample _ (fails (c .before .cell-settings-fit .ensures) (c .if1 .taken)))
 
 returns-2 : tie.Need-returns-2
-returns-2 c = let given = c .before .before .before .before .args in
+returns-2 c = let test = c .before .before in
+    let given = test .before .before .args in
     let values = rowValues (given .diagram) (given .period) (given .cell) in
+    let fit = holds (test .before .cell-settings-fit .ensures) (test .if1 .left) in
     c .round-values .ensures
     ∙ ap (λ r. rowAs (answer (valuesFit r ∷ [])) r) (c .before .row-values .ensures)
-    ∙ ap (λ a. rowAs a values) (test-passes Sample (answer (valuesFit values ∷ [])) (holds (c .before .before .before .cell-settings-fit .ensures) (c .before .before .if1 .left)))
+    ∙ ap (λ a. rowAs a values) (test-passes Sample (answer (valuesFit values ∷ [])) fit)
 
 pub make-row-spec : {M : Type 1} → statement M
 make-row-spec =

@@ -11,19 +11,37 @@ returns c = rw (fails (c .before .value-fits .ensures) (c .if1 .taken))
 
 returns-2 : tie.Need-returns-2
 unfolding ofBits ofInt
-returns-2 c = rw (holds (c .before .before .before .value-fits .ensures) (c .before .before .if1 .left), fails (c .before .value-fits2 .ensures) (c .if2 .taken))
+returns-2 c = let first = c .before .before in
+    let v = holds (first .before .value-fits .ensures) (first .if1 .left) in
+    rw (v, fails (c .before .value-fits2 .ensures) (c .if2 .taken))
 
 returns-3 : tie.Need-returns-3
 unfolding ofBits ofInt
-returns-3 c = rw (holds (c .before .before .before .before .before .value-fits .ensures) (c .before .before .before .before .if1 .left), holds (c .before .before .before .value-fits2 .ensures) (c .before .before .if2 .left), fails (c .before .value-fits3 .ensures) (c .if3 .taken))
+returns-3 c = let second = c .before .before in
+    let first = second .before .before in
+    let v = holds (first .before .value-fits .ensures) (first .if1 .left) in
+    let w = holds (second .before .value-fits2 .ensures) (second .if2 .left) in
+    rw (v, w, fails (c .before .value-fits3 .ensures) (c .if3 .taken))
 
 returns-4 : tie.Need-returns-4
 unfolding ofBits ofInt
-returns-4 c = rw (holds (c .before .before .before .before .before .before .before .value-fits .ensures) (c .before .before .before .before .before .before .if1 .left), holds (c .before .before .before .before .before .value-fits2 .ensures) (c .before .before .before .before .if2 .left), holds (c .before .before .before .value-fits3 .ensures) (c .before .before .if3 .left), fails (c .before .value-fits4 .ensures) (c .if4 .taken))
+returns-4 c = let third = c .before .before in
+    let second = third .before .before in
+    let first = second .before .before in
+    let v = holds (first .before .value-fits .ensures) (first .if1 .left) in
+    let w = holds (second .before .value-fits2 .ensures) (second .if2 .left) in
+    let capacity = holds (third .before .value-fits3 .ensures) (third .if3 .left) in
+    rw (v, w, capacity, fails (c .before .value-fits4 .ensures) (c .if4 .taken))
 
 returns-5 : tie.Need-returns-5
 unfolding ofBits ofInt
-returns-5 c = rw (holds (c .before .before .before .before .before .before .before .value-fits .ensures) (c .before .before .before .before .before .before .if1 .left), holds (c .before .before .before .before .before .value-fits2 .ensures) (c .before .before .before .before .if2 .left), holds (c .before .before .before .value-fits3 .ensures) (c .before .before .if3 .left), holds (c .before .value-fits4 .ensures) (c .if4 .left))
+returns-5 c = let third = c .before .before in
+    let second = third .before .before in
+    let first = second .before .before in
+    let v = holds (first .before .value-fits .ensures) (first .if1 .left) in
+    let w = holds (second .before .value-fits2 .ensures) (second .if2 .left) in
+    let capacity = holds (third .before .value-fits3 .ensures) (third .if3 .left) in
+    rw (v, w, capacity, holds (c .before .value-fits4 .ensures) (c .if4 .left))
 
 pub values-fit-spec : {M : Type 1} → statement M
 values-fit-spec =

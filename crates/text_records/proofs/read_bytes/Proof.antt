@@ -17,17 +17,26 @@ loop-holds : tie.Need-loop-holds Inv-loop μ-loop
 loop-holds c = opens _ _ _ _
 
 loop-again : tie.Need-loop-again Inv-loop μ-loop
-loop-again c = goes-on (c .before .before .before .before .before .before .loop .inv) (search needs) (c .before .before .before .feed .ensures) (c .before .step .given .1)
+loop-again c = let fed = c .before .before .before in
+    let at = fed .before .before .before in
+    goes-on (at .loop .inv) (search needs) (fed .feed .ensures) (c .before .step .given .1)
 
 loop-again-2 : tie.Need-loop-again-2 Inv-loop μ-loop
-loop-again-2 c = stores-a-field (c .before .before .before .before .before .before .before .before .before .before .loop .inv) (search needs)
-    (c .before .before .before .before .before .before .before .feed .ensures) (c .before .before .before .before .before .step2 .given .1) (c .before .before .put .ensures)
+loop-again-2 c = let put = c .before .before in
+    let is-field = put .before .before .before in
+    let fed = is-field .before .before in
+    let at = fed .before .before .before in
+    stores-a-field (at .loop .inv) (search needs) (fed .feed .ensures) (is-field .step2 .given .1) (put .put .ensures)
 
 returns : tie.Need-returns Inv-loop μ-loop
-returns c = completes (c .before .before .before .before .before .loop .inv) (search needs) (c .before .before .feed .ensures) (c .enum-told .given .1)
+returns c = let fed = c .before .before in
+    let at = fed .before .before .before in
+    completes (at .loop .inv) (search needs) (fed .feed .ensures) (c .enum-told .given .1)
 
 returns-2 : tie.Need-returns-2 Inv-loop μ-loop
-returns-2 c = breaks (c .before .before .before .before .before .loop .inv) (search needs) (c .before .before .feed .ensures) (c .enum-told2 .given .1)
+returns-2 c = let fed = c .before .before in
+    let at = fed .before .before .before in
+    breaks (at .loop .inv) (search needs) (fed .feed .ensures) (c .enum-told2 .given .1)
 
 returns-3 : tie.Need-returns-3 Inv-loop μ-loop
 returns-3 c = used-up (c .before .loop .inv) (search needs)

@@ -6,17 +6,18 @@ use Rattle.text_records.proofs.read_one.Statement.{statement}
 use Rattle.text_records.proofs.read_one.Tie as tie
 
 returns : tie.Need-returns
-returns c = (
-  sym (c .before .before .before .before .before .found .given .1) ∙ c .before .before .before .before .before .before .before .one .ensures
-      ∙ ap one (c .before .before .before .before .before .before .before .before .check-text .ensures),
-  c .before .before .store-text .ensures,
-)
+returns c = let store = c .before .before in
+    let holds = store .before .before .before in
+    let single = holds .before .before in
+    (sym (holds .found .given .1) ∙ single .one .ensures ∙ ap one (single .before .check-text .ensures), store .store-text .ensures)
 
 returns-2 : tie.Need-returns-2
-returns-2 c = (sym (c .before .found2 .given .1) ∙ c .before .before .before .one .ensures ∙ ap one (c .before .before .before .before .check-text .ensures), refl)
+returns-2 c = let single = c .before .before .before in
+    (sym (c .before .found2 .given .1) ∙ single .one .ensures ∙ ap one (single .before .check-text .ensures), refl)
 
 returns-3 : tie.Need-returns-3
-returns-3 c = (sym (c .enum-told .given .1) ∙ c .before .before .one .ensures ∙ ap one (c .before .before .before .check-text .ensures), refl)
+returns-3 c = let single = c .before .before in
+    (sym (c .enum-told .given .1) ∙ single .one .ensures ∙ ap one (single .before .check-text .ensures), refl)
 
 pub read-one-spec : {M : Type 1} → statement M
 read-one-spec =

@@ -7,19 +7,23 @@ use Rattle.text_records.proofs.read_text.Statement.{statement}
 use Rattle.text_records.proofs.read_text.Tie as tie
 
 returns : tie.Need-returns
-returns c = let a = c .before .before .before .before .before .before .before .before .before .before .before .args in (
-  sym (c .before .before .before .before .before .found .given .1) ∙ c .before .before .before .before .before .before .before .fit .ensures
-      ∙ ap (fit (a .fields) (length (a .list .now))) (c .before .before .before .before .before .before .before .before .check-text .ensures),
-  c .before .before .store-text .ensures,
-)
+returns c = let store = c .before .before in
+    let holds = store .before .before .before in
+    let fitted = holds .before .before in
+    let a = fitted .before .before .before .before .args in (
+      sym (holds .found .given .1) ∙ fitted .fit .ensures ∙ ap (fit (a .fields) (length (a .list .now))) (fitted .before .check-text .ensures),
+      store .store-text .ensures,
+    )
 
 returns-2 : tie.Need-returns-2
-returns-2 c = let a = c .before .before .before .before .before .before .before .args in
-    (sym (c .before .found2 .given .1) ∙ c .before .before .before .fit .ensures ∙ ap (fit (a .fields) (length (a .list .now))) (c .before .before .before .before .check-text .ensures), refl)
+returns-2 c = let fitted = c .before .before .before in
+    let a = fitted .before .before .before .before .args in
+    (sym (c .before .found2 .given .1) ∙ fitted .fit .ensures ∙ ap (fit (a .fields) (length (a .list .now))) (fitted .before .check-text .ensures), refl)
 
 returns-3 : tie.Need-returns-3
-returns-3 c = let a = c .before .before .before .before .before .before .args in
-    (sym (c .enum-told .given .1) ∙ c .before .before .fit .ensures ∙ ap (fit (a .fields) (length (a .list .now))) (c .before .before .before .check-text .ensures), refl)
+returns-3 c = let fitted = c .before .before in
+    let a = fitted .before .before .before .before .args in
+    (sym (c .enum-told .given .1) ∙ fitted .fit .ensures ∙ ap (fit (a .fields) (length (a .list .now))) (fitted .before .check-text .ensures), refl)
 
 pub read-text-spec : {M : Type 1} → statement M
 read-text-spec =

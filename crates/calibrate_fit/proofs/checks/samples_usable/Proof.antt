@@ -34,16 +34,17 @@ loop-holds c = (goes-on (begins _ refl) (omega arith) (c .before .settings-fit .
 
 returns-2 : tie.Need-returns-2 Inv-loop μ-loop
 returns-2 c = let at = c .before .before .before .before in
-    let lists = at .before .before .before .before .before .args in (
-      found (at .loop .inv .0) (omega arith) (tested (lists .settings) (lists .flow .now) (lists .occupancy .now) (at .loop .i) (c .before .before .sample-at .ensures) (c .before .usable .ensures)) (c .if2 .taken),
-      λ h. absurd (omega arith),
-    )
+    let lists = at .before .before .before .before .before .args in
+    let read = c .before .before .sample-at .ensures in
+    let test = tested (lists .settings) (lists .flow .now) (lists .occupancy .now) (at .loop .i) read (c .before .usable .ensures) in
+    (found (at .loop .inv .0) (omega arith) test (c .if2 .taken), λ h. absurd (omega arith))
 
 loop-again : tie.Need-loop-again Inv-loop μ-loop
 loop-again c = let at = c .before .before .before .before .before in
     let lists = at .before .before .before .before .before .args in
-    let read = c .before .before .before .sample-at .ensures in (
-      goes-on (at .loop .inv .0) (omega arith) (tested (lists .settings) (lists .flow .now) (lists .occupancy .now) (at .loop .i) read (c .before .before .usable .ensures)) (c .before .if2 .left),
+    let read = c .before .before .before .sample-at .ensures in
+    let test = tested (lists .settings) (lists .flow .now) (lists .occupancy .now) (at .loop .i) read (c .before .before .usable .ensures) in (
+      goes-on (at .loop .inv .0) (omega arith) test (c .before .if2 .left),
       passes.goes-on (lists .settings) (lists .flow .now) (lists .occupancy .now) (at .loop .inv .1) (search needs) (search needs) read (c .larger-flow .ensures),
     )
 

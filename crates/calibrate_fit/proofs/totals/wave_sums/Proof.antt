@@ -29,8 +29,11 @@ loop-again c = let at = c .before .before .before in
     )
 
 returns : tie.Need-returns Inv-loop μ-loop
-returns c = let lists = c .before .before .before .before .args in
-    ap₂ sums-of (ends-whole (lists .settings) (lists .flow .now) (lists .occupancy .now) (c .before .loop .inv .0) (search needs)) (ends-whole (lists .settings) (lists .flow .now) (lists .occupancy .now) (c .before .loop .inv .1) (search needs))
+returns c = let at = c .before in
+    let lists = at .before .before .before .args in
+    ap₂ sums-of
+    (ends-whole (lists .settings) (lists .flow .now) (lists .occupancy .now) (at .loop .inv .0) (search needs))
+    (ends-whole (lists .settings) (lists .flow .now) (lists .occupancy .now) (at .loop .inv .1) (search needs))
 
 pub wave-sums-spec : {M : Type 1} → statement M
 wave-sums-spec =

@@ -8,9 +8,11 @@ use Rattle.calibrate_rows.proofs.row.row_values.Tie as tie
 
 returns : tie.Need-returns
 unfolding ofBits ofInt
-returns c = let given = c .before .before .before .before .before .args in
+returns c = let wave = c .before .before .before in
+    let speed = wave .before in
+    let given = speed .before .args in
     let values = rowValues (given .diagram) (given .period) (given .cell) in
-    ap₂ (λ v w. record { v = v; w = w; capacity = values .capacity; jam = values .jam }) (c .before .before .before .before .share .ensures) (c .before .before .before .share2 .ensures)
+    ap₂ (λ v w. record { v = v; w = w; capacity = values .capacity; jam = values .jam }) (speed .speed-share .ensures) (wave .speed-share2 .ensures)
 
 pub row-values-spec : {M : Type 1} → statement M
 row-values-spec =

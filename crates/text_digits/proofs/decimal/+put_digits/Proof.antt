@@ -66,8 +66,9 @@ put-digits-slice-write-buffer : (t : ℕ) → put-digits-lts.Need-slice-write-bu
   digit-reads.Learnt,
 ) (put-digits-at t) put-digits.Post
 put-digits-slice-write-buffer t c =
-    let s = c .before .before .before .before .before .before .before in
-    omega (arith, one-longer (s .args .number) (omega arith), s .pre .1, c .before .before .before .put-digits .ensures .0, c .before .before .before .put-digits .kept .1 .0)
+    let put = c .before .before .before in
+    let s = put .before .before .before .before in
+    omega (arith, one-longer (s .args .number) (omega arith), s .pre .1, put .put-digits .ensures .0, put .put-digits .kept .1 .0)
 
 put-digits-add-result : (t : ℕ) → put-digits-lts.Need-add-result (
   put-few-reads.Asked,
@@ -78,8 +79,9 @@ put-digits-add-result : (t : ℕ) → put-digits-lts.Need-add-result (
   digit-reads.Learnt,
 ) (put-digits-at t) put-digits.Post
 put-digits-add-result t c =
-    let s = c .before .before .before .before .before .before .before in
-    omega (arith, one-longer (s .args .number) (omega arith), s .pre .1, c .before .before .before .put-digits .ensures .0, c .before .before .before .put-digits .kept .1 .0)
+    let put = c .before .before .before in
+    let s = put .before .before .before .before in
+    omega (arith, one-longer (s .args .number) (omega arith), s .pre .1, put .put-digits .ensures .0, put .put-digits .kept .1 .0)
 
 put-digits-same-length : (t : ℕ) → put-digits-lts.Need-same-length (
   put-few-reads.Asked,
@@ -109,7 +111,9 @@ put-digits-same-length-2 : (t : ℕ) → put-digits-lts.Need-same-length-2 (
   digit-reads.Asked,
   digit-reads.Learnt,
 ) (put-digits-at t) put-digits.Post
-put-digits-same-length-2 t c = length-set (c .before .before .before .put-digits .last .1 .0) (c .before .before .before .put-digits .result) (c .digit .result) ∙ c .before .before .before .put-digits .kept .1 .0
+put-digits-same-length-2 t c =
+    let put = c .before .before .before .put-digits in
+    length-set (put .last .1 .0) (put .result) (c .digit .result) ∙ put .kept .1 .0
 
 put-digits-returns-2 : (t : ℕ) → put-digits-lts.Need-returns-2 (
   put-few-reads.Asked,

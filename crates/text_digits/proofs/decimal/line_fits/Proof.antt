@@ -16,7 +16,8 @@ returns c = let a = c .before .before .args in sym (lt-leb (a .at + length (line
 
 returns-2 : tie.Need-returns-2
 returns-2 c = let a = c .before .before .before .args in
-    sym (le-leb (a .at + length (lineText (a .numbers .now))) (a .size) (omega (arith, line-at-most (a .numbers .now) (λ i. omega (arith, c .before .before .shared-slice-known .given i)))))
+    let most = line-at-most (a .numbers .now) (λ i. omega (arith, c .before .before .shared-slice-known .given i)) in
+    sym (le-leb (a .at + length (lineText (a .numbers .now))) (a .size) (omega (arith, most)))
 
 returns-3 : tie.Need-returns-3
 returns-3 c = let a = c .before .before .before .before .args in

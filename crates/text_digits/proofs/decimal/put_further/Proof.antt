@@ -9,20 +9,25 @@ use Rattle.text_digits.proofs.decimal.put_further.Statement.{statement}
 use Rattle.text_digits.proofs.decimal.put_further.Tie as tie
 
 slice-write-buffer-2 : tie.Need-slice-write-buffer-2
-slice-write-buffer-2 c = omega (arith, length-set (c .before .before .before .args .buffer .now) (c .before .before .before .args .at) 44)
+slice-write-buffer-2 c = let a = c .before .before .before .args in omega (arith, length-set (a .buffer .now) (a .at) 44)
 
 returns : tie.Need-returns
 returns c = rw (one-digit (c .before .before .before .args .number) (c .before .if1 .taken)) (refl, (omega arith, rw (add-one, c .digit .ensures)))
 
 put-number-requires : tie.Need-put-number-requires
-put-number-requires c κs = omega (arith, at-most-20 (c .before .before .before .args .number) (omega arith), length-set (c .before .before .before .args .buffer .now) (c .before .before .before .args .at) 44)
+put-number-requires c κs = let a = c .before .before .before .args in
+    omega (arith, at-most-20 (a .number) (omega arith), length-set (a .buffer .now) (a .at) 44)
 
 same-length-2 : tie.Need-same-length-2
-same-length-2 c = c .before .before .put-number .kept .1 .0 ∙ length-set (c .before .before .before .before .before .before .args .buffer .now) (c .before .before .before .before .before .before .args .at) 44
+same-length-2 c = let put = c .before .before in
+    let a = put .before .before .before .before .args in
+    put .put-number .kept .1 .0 ∙ length-set (a .buffer .now) (a .at) 44
 
 returns-2 : tie.Need-returns-2
-returns-2 c = let put = c .before .before .put-number .ensures in
-    (omega (arith, put .0), (omega (arith, put .0, at-most-20 (c .before .before .before .before .before .before .args .number) (omega arith)), put .1 ∙ rw add-one))
+returns-2 c = let put = c .before .before in
+    let a = put .before .before .before .before .args in
+    let done = put .put-number .ensures in
+    (omega (arith, done .0), (omega (arith, done .0, at-most-20 (a .number) (omega arith)), done .1 ∙ rw add-one))
 
 pub put-further-spec : {M : Type 1} → statement M
 put-further-spec =

@@ -1,6 +1,5 @@
 -- `text_digits::decimal::put_line` meets its contract. Assumes nothing.
 use Prim.Native.Nat.{_-_}
-use mathlib.Core.Path.{_∙_}
 use native.Mathlib.Omega.{arith}
 use borrow.Author.Needs.{needs}
 use lib.ListN.{length}
@@ -15,19 +14,24 @@ abbrev μ-loop : tie.MeasureT-loop
 μ-loop numbers buffer₀ at next₀ i₀ buffer next i = length numbers - i
 
 loop-holds : tie.Need-loop-holds Inv-loop μ-loop
-loop-holds c = line-begins (c .before .before .args .numbers .now) (c .before .before .args .buffer .now) (c .before .before .args .at) (c .before .before .pre)
+loop-holds c = let start = c .before .before in
+    line-begins (start .args .numbers .now) (start .args .buffer .now) (start .args .at) (start .pre)
 
 put-separated-requires : tie.Need-put-separated-requires Inv-loop μ-loop
 put-separated-requires c κs = next-fits (c .before .before .before .loop .inv) (search needs)
 
 loop-again : tie.Need-loop-again Inv-loop μ-loop
-loop-again c = next-put (c .before .before .before .before .before .before .loop .inv) (search needs) (c .before .before .put-separated .ensures .0) (c .before .before .put-separated .ensures .1) (c .before .before .put-separated .kept .1 .1 .0)
+loop-again c = let put = c .before .before in
+    let at = put .before .before .before .before in
+    next-put (at .loop .inv) (search needs) (put .put-separated .ensures .0) (put .put-separated .ensures .1) (put .put-separated .kept .1 .1 .0)
 
 put-end-requires : tie.Need-put-end-requires Inv-loop μ-loop
 put-end-requires c κs = end-fits (c .before .before .loop .inv) (search needs)
 
 returns : tie.Need-returns Inv-loop μ-loop
-returns c = end-put (c .before .before .before .before .before .loop .inv) (search needs) (c .before .before .put-end .ensures .0) (c .before .before .put-end .ensures .1)
+returns c = let put = c .before .before in
+    let at = put .before .before .before in
+    end-put (at .loop .inv) (search needs) (put .put-end .ensures .0) (put .put-end .ensures .1)
 
 pub put-line-spec : {M : Type 1} → statement M
 put-line-spec =

@@ -7,14 +7,22 @@ use Rattle.text_digits.proofs.decimal.put_rest.Statement.{statement}
 use Rattle.text_digits.proofs.decimal.put_rest.Tie as tie
 
 returns : tie.Need-returns
-returns c = let a = c .before .before .before .before .before .before .before .before .before .before .before .before .before .before .before .before .before .before .before .before .before .before .before .before .before .before .before .before .before .args in
-    let at-a = further-put (a .a) (a .b ∷ a .c ∷ a .d ∷ a .e ∷ a .f ∷ []) (rest-begins (a .a ∷ a .b ∷ a .c ∷ a .d ∷ a .e ∷ a .f ∷ []) (a .buffer .now) (a .at)) (c .before .before .before .before .before .before .before .before .before .before .before .before .before .before .before .before .before .before .before .before .before .before .before .before .before .before .put-further .ensures .0) (c .before .before .before .before .before .before .before .before .before .before .before .before .before .before .before .before .before .before .before .before .before .before .before .before .before .before .put-further .ensures .1 .1) in
-    let at-b = further-put (a .b) (a .c ∷ a .d ∷ a .e ∷ a .f ∷ []) at-a (c .before .before .before .before .before .before .before .before .before .before .before .before .before .before .before .before .before .before .before .before .before .before .put-further2 .ensures .0) (c .before .before .before .before .before .before .before .before .before .before .before .before .before .before .before .before .before .before .before .before .before .before .put-further2 .ensures .1 .1) in
-    let at-c = further-put (a .c) (a .d ∷ a .e ∷ a .f ∷ []) at-b (c .before .before .before .before .before .before .before .before .before .before .before .before .before .before .before .before .before .before .put-further3 .ensures .0) (c .before .before .before .before .before .before .before .before .before .before .before .before .before .before .before .before .before .before .put-further3 .ensures .1 .1) in
-    let at-d = further-put (a .d) (a .e ∷ a .f ∷ []) at-c (c .before .before .before .before .before .before .before .before .before .before .before .before .before .before .put-further4 .ensures .0) (c .before .before .before .before .before .before .before .before .before .before .before .before .before .before .put-further4 .ensures .1 .1) in
-    let at-e = further-put (a .e) (a .f ∷ []) at-d (c .before .before .before .before .before .before .before .before .before .before .put-further5 .ensures .0) (c .before .before .before .before .before .before .before .before .before .before .put-further5 .ensures .1 .1) in
-    let at-f = further-put (a .f) [] at-e (c .before .before .before .before .before .before .put-further6 .ensures .0) (c .before .before .before .before .before .before .put-further6 .ensures .1 .1) in
-    let done = rest-ends at-f (c .before .before .put-end .ensures .0) (c .before .before .put-end .ensures .1) in
+returns c = let put-end = c .before .before in
+    let put-f = put-end .before .before .before .before in
+    let put-e = put-f .before .before .before .before in
+    let put-d = put-e .before .before .before .before in
+    let put-c = put-d .before .before .before .before in
+    let put-b = put-c .before .before .before .before in
+    let put-a = put-b .before .before .before .before in
+    let a = put-a .before .before .before .args in
+    let begins = rest-begins (a .a ∷ a .b ∷ a .c ∷ a .d ∷ a .e ∷ a .f ∷ []) (a .buffer .now) (a .at) in
+    let after-a = further-put (a .a) (a .b ∷ a .c ∷ a .d ∷ a .e ∷ a .f ∷ []) begins (put-a .put-further .ensures .0) (put-a .put-further .ensures .1 .1) in
+    let after-b = further-put (a .b) (a .c ∷ a .d ∷ a .e ∷ a .f ∷ []) after-a (put-b .put-further2 .ensures .0) (put-b .put-further2 .ensures .1 .1) in
+    let after-c = further-put (a .c) (a .d ∷ a .e ∷ a .f ∷ []) after-b (put-c .put-further3 .ensures .0) (put-c .put-further3 .ensures .1 .1) in
+    let after-d = further-put (a .d) (a .e ∷ a .f ∷ []) after-c (put-d .put-further4 .ensures .0) (put-d .put-further4 .ensures .1 .1) in
+    let after-e = further-put (a .e) (a .f ∷ []) after-d (put-e .put-further5 .ensures .0) (put-e .put-further5 .ensures .1 .1) in
+    let after-f = further-put (a .f) [] after-e (put-f .put-further6 .ensures .0) (put-f .put-further6 .ensures .1 .1) in
+    let done = rest-ends after-f (put-end .put-end .ensures .0) (put-end .put-end .ensures .1) in
     (done .0, (omega arith, done .1))
 
 pub put-rest-spec : {M : Type 1} → statement M

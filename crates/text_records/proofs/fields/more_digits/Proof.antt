@@ -1,11 +1,9 @@
 -- `text_records::fields::more_digits` meets its contract. Assumes nothing.
 use Prim.Native.Nat.{_-_, _<_}
-use mathlib.Core.Path.{sym, _∙_}
 use native.Mathlib.Omega.{arith}
 use borrow.Author.Needs.{needs}
-use borrow.Author.Tests.{not-false}
 use lib.ListN.{getD}
-use Rattle.text_records.specs.Fields.{DigitsRead}
+use Rattle.text_records.specs.Private.{DigitsRead}
 use Rattle.text_records.proofs.Comes.{is-digit, no-digits-yet, one-digit-more}
 use Rattle.text_records.proofs.fields.more_digits.Statement.{statement}
 use Rattle.text_records.proofs.fields.more_digits.Tie as tie
@@ -26,17 +24,32 @@ returns-2 : tie.Need-returns-2 Inv-loop μ-loop
 returns-2 c = c .before .before .before .before .before .loop .inv .1
 
 sub-value : tie.Need-sub-value Inv-loop μ-loop
-sub-value c = let digit = is-digit (getD (c .before .before .before .before .before .before .before .args .chunk .now) (c .before .before .before .before .before .loop .next) 0) (sym (c .before .before .is-digit .ensures) ∙ not-false _ (c .before .if1 .left)) in omega arith
+sub-value c = let test = c .before in
+    let at = test .before .before .before .before in
+    let byte = getD (at .before .before .args .chunk .now) (at .loop .next) 0 in
+    let digit = is-digit byte (test .before .is-digit .ensures) (test .if1 .left) in
+    omega arith
 
 cast-value : tie.Need-cast-value Inv-loop μ-loop
-cast-value c = let digit = is-digit (getD (c .before .before .before .before .before .before .before .args .chunk .now) (c .before .before .before .before .before .loop .next) 0) (sym (c .before .before .is-digit .ensures) ∙ not-false _ (c .before .if1 .left)) in omega arith
+cast-value c = let test = c .before in
+    let at = test .before .before .before .before in
+    let byte = getD (at .before .before .args .chunk .now) (at .loop .next) 0 in
+    let digit = is-digit byte (test .before .is-digit .ensures) (test .if1 .left) in
+    omega arith
 
 add-value : tie.Need-add-value Inv-loop μ-loop
-add-value c = let digit = is-digit (getD (c .before .before .before .before .before .before .before .args .chunk .now) (c .before .before .before .before .before .loop .next) 0) (sym (c .before .before .is-digit .ensures) ∙ not-false _ (c .before .if1 .left)) in omega arith
+add-value c = let test = c .before in
+    let at = test .before .before .before .before in
+    let byte = getD (at .before .before .args .chunk .now) (at .loop .next) 0 in
+    let digit = is-digit byte (test .before .is-digit .ensures) (test .if1 .left) in
+    omega arith
 
 loop-again : tie.Need-loop-again Inv-loop μ-loop
-loop-again c = let digit = is-digit (getD (c .before .before .before .before .before .before .before .args .chunk .now) (c .before .before .before .before .before .loop .next) 0) (sym (c .before .before .is-digit .ensures) ∙ not-false _ (c .before .if1 .left)) in
-    (omega arith, one-digit-more (c .before .before .before .before .before .loop .inv .1) (search needs) (search needs) digit (search needs) (search needs))
+loop-again c = let test = c .before in
+    let at = test .before .before .before .before in
+    let byte = getD (at .before .before .args .chunk .now) (at .loop .next) 0 in
+    let digit = is-digit byte (test .before .is-digit .ensures) (test .if1 .left) in
+    (omega arith, one-digit-more (at .loop .inv .1) (search needs) (search needs) digit (search needs) (search needs))
 
 returns-3 : tie.Need-returns-3 Inv-loop μ-loop
 returns-3 c = c .before .loop .inv .1

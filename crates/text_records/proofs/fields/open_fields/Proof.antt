@@ -9,12 +9,16 @@ use Rattle.text_records.proofs.fields.open_fields.Statement.{statement}
 use Rattle.text_records.proofs.fields.open_fields.Tie as tie
 
 stop-at-requires : tie.Need-stop-at-requires
-stop-at-requires c κs = let a = c .before .before .before .before .before .before .args in
-    let fits = both-hold (leb (a .from) (length (a .chunk .now))) (leb (c .before .before .scan .given .0 .1 .0) 16384) (c .if1 .taken) in
-    (leb-true (a .from) (length (a .chunk .now)) (fits .0), leb-true (c .before .before .scan .given .0 .1 .0) 16384 (fits .1))
+stop-at-requires c κs = let scan = c .before .before in
+    let a = scan .before .before .before .before .args in
+    let bytes = scan .scan .given .0 .1 .0 in
+    let fits = both-hold (leb (a .from) (length (a .chunk .now))) (leb bytes 16384) (c .if1 .taken) in
+    (leb-true (a .from) (length (a .chunk .now)) (fits .0), leb-true bytes 16384 (fits .1))
 
 returns : tie.Need-returns
-returns c = rw (c .before .before .before .before .before .before .before .scan .given .1) (c .before .before .whole-fields .ensures .reads (c .before .before .before .before .before .before .before .scan .given .0 .1 .0) (search needs))
+returns c = let read = c .before .before in
+    let scan = read .before .before .before .before .before .scan .given in
+    rw (scan .1) (read .whole-fields .ensures .reads (scan .0 .1 .0) (search needs))
 
 returns-2 : tie.Need-returns-2
 returns-2 c = rw (c .before .before .scan .given .1) (stays _ _ _ _ _)

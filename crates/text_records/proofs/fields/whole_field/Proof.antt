@@ -1,7 +1,5 @@
 -- `text_records::fields::whole_field` meets its contract. Assumes nothing.
-use mathlib.Core.Path.{sym, _∙_}
 use native.Mathlib.Omega.{arith}
-use borrow.Author.Tests.{not-false}
 use lib.ListN.{getD}
 use borrow.Author.Needs.{needs}
 use Rattle.text_records.proofs.Comes.{is-digit, only-digit, first-digit-then}
@@ -9,16 +7,27 @@ use Rattle.text_records.proofs.fields.whole_field.Statement.{statement}
 use Rattle.text_records.proofs.fields.whole_field.Tie as tie
 
 sub-first : tie.Need-sub-first
-sub-first c = let digit = is-digit (getD (c .before .before .before .before .before .args .chunk .now) (c .before .before .before .before .before .args .from) 0) (sym (c .before .is-digit .ensures) ∙ not-false _ (c .if2 .left)) in omega arith
+sub-first c = let a = c .before .before .before .before .before .args in
+    let digit = is-digit (getD (a .chunk .now) (a .from) 0) (c .before .is-digit .ensures) (c .if2 .left) in
+    omega arith
 
 cast-first : tie.Need-cast-first
-cast-first c = let digit = is-digit (getD (c .before .before .before .before .before .args .chunk .now) (c .before .before .before .before .before .args .from) 0) (sym (c .before .is-digit .ensures) ∙ not-false _ (c .if2 .left)) in omega arith
+cast-first c = let a = c .before .before .before .before .before .args in
+    let digit = is-digit (getD (a .chunk .now) (a .from) 0) (c .before .is-digit .ensures) (c .if2 .left) in
+    omega arith
 
 returns-3 : tie.Need-returns-3
-returns-3 c = only-digit _ _ _ (search needs) (is-digit (getD (c .before .before .before .before .before .before .before .args .chunk .now) (c .before .before .before .before .before .before .before .args .from) 0) (sym (c .before .before .before .is-digit .ensures) ∙ not-false _ (c .before .before .if2 .left))) (c .before .before .before .before .before .if1 .left) (c .if3 .taken)
+returns-3 c = let test = c .before .before in
+    let long = test .before .before .before in
+    let a = long .before .before .args in
+    let digit = is-digit (getD (a .chunk .now) (a .from) 0) (test .before .is-digit .ensures) (test .if2 .left) in
+    only-digit _ _ _ (search needs) digit (long .if1 .left) (c .if3 .taken)
 
 returns-5 : tie.Need-returns-5
-returns-5 c = first-digit-then _ _ _ (search needs) (is-digit (getD (c .before .before .before .before .before .before .before .before .before .args .chunk .now) (c .before .before .before .before .before .before .before .before .before .args .from) 0) (sym (c .before .before .before .before .before .is-digit .ensures) ∙ not-false _ (c .before .before .before .before .if2 .left))) (c .after-first .result) (omega arith) (c .after-first .ensures)
+returns-5 c = let test = c .before .before .before .before in
+    let a = test .before .before .before .before .before .args in
+    let digit = is-digit (getD (a .chunk .now) (a .from) 0) (test .before .is-digit .ensures) (test .if2 .left) in
+    first-digit-then _ _ _ (search needs) digit (c .after-first .result) (omega arith) (c .after-first .ensures)
 
 pub whole-field-spec : {M : Type 1} → statement M
 whole-field-spec =

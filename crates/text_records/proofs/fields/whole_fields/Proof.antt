@@ -5,7 +5,7 @@ use native.Mathlib.Omega.{arith}
 use borrow.Author.Needs.{needs}
 use borrow.Author.Tests.{ltb-true}
 use lib.ListN.{length, length-set}
-use Rattle.text_records.specs.Fields.{FieldsRead}
+use Rattle.text_records.specs.Private.{FieldsRead}
 use Rattle.text_records.proofs.Comes.{no-fields-yet, one-field-more}
 use Rattle.text_records.proofs.fields.whole_fields.Statement.{statement}
 use Rattle.text_records.proofs.fields.whole_fields.Tie as tie
@@ -20,21 +20,33 @@ loop-holds : tie.Need-loop-holds Inv-loop μ-loop
 loop-holds c = (no-fields-yet _ _ _ _ _ (search needs), refl)
 
 mul-row : tie.Need-mul-row Inv-loop μ-loop
-mul-row c = let more = ltb-true (c .before .before .before .before .before .before .loop .field + 1) (length (c .before .before .before .before .before .before .loop .row)) (sym (c .before .before .before .before .before .followed .ensures) ∙ c .before .before .before .before .if1 .taken) in let h : c .before .before .before .before .before .before .loop .field < length (c .before .before .before .before .before .before .before .before .before .args .row .now) = omega arith in search needs
+mul-row c = let test = c .before .before .before .before in
+    let at = test .before .before in
+    let more = ltb-true (at .loop .field + 1) (length (at .loop .row)) (sym (test .before .followed .ensures) ∙ test .if1 .taken) in
+    let h : at .loop .field < length (at .before .before .before .args .row .now) = omega arith in
+    search needs
 
 slice-write-row : tie.Need-slice-write-row Inv-loop μ-loop
-slice-write-row c = let more = ltb-true (c .before .before .before .before .before .before .loop .field + 1) (length (c .before .before .before .before .before .before .loop .row)) (sym (c .before .before .before .before .before .followed .ensures) ∙ c .before .before .before .before .if1 .taken) in omega arith
+slice-write-row c = let test = c .before .before .before .before in
+    let at = test .before .before in
+    let more = ltb-true (at .loop .field + 1) (length (at .loop .row)) (sym (test .before .followed .ensures) ∙ test .if1 .taken) in
+    omega arith
 
 add-field : tie.Need-add-field Inv-loop μ-loop
-add-field c = let more = ltb-true (c .before .before .before .before .before .before .loop .field + 1) (length (c .before .before .before .before .before .before .loop .row)) (sym (c .before .before .before .before .before .followed .ensures) ∙ c .before .before .before .before .if1 .taken) in omega arith
+add-field c = let test = c .before .before .before .before in
+    let at = test .before .before in
+    let more = ltb-true (at .loop .field + 1) (length (at .loop .row)) (sym (test .before .followed .ensures) ∙ test .if1 .taken) in
+    omega arith
 
 loop-less : tie.Need-loop-less Inv-loop μ-loop
-loop-less c = let one = rw (c .before .begun .given .1) at (c .before .before .before .whole-field .ensures) in omega (arith, one .on, one .ends)
+loop-less c = let one = rw (c .before .begun .given .1) at (c .before .before .before .whole-field .ensures) in omega (arith, one .further, one .ends)
 
 loop-again : tie.Need-loop-again Inv-loop μ-loop
-loop-again c = let more = ltb-true (c .before .before .before .before .before .before .loop .field + 1) (length (c .before .before .before .before .before .before .loop .row)) (sym (c .before .before .before .before .before .followed .ensures) ∙ c .before .before .before .before .if1 .taken) in
+loop-again c = let test = c .before .before .before .before in
+    let at = test .before .before in
+    let more = ltb-true (at .loop .field + 1) (length (at .loop .row)) (sym (test .before .followed .ensures) ∙ test .if1 .taken) in
     let one = rw (c .before .begun .given .1) at (c .before .before .before .whole-field .ensures) in
-    (one-field-more (c .before .before .before .before .before .before .loop .inv .0) (omega arith) one, simp length-set (c .before .before .before .before .before .before .loop .inv .1))
+    (one-field-more (at .loop .inv .0) (omega arith) one, simp length-set (at .loop .inv .1))
 
 returns : tie.Need-returns Inv-loop μ-loop
 returns c = c .before .before .before .before .before .loop .inv .0

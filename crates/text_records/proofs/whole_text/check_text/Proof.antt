@@ -25,35 +25,52 @@ loop-holds : tie.Need-loop-holds Inv-loop μ-loop
 loop-holds c = checks _ _ (c .begin .ensures)
 
 loop-again : tie.Need-loop-again Inv-loop μ-loop
-loop-again c = check-more (c .before .before .before .before .before .before .loop .inv) (search needs) (c .before .before .before .feed .ensures) (c .before .step .given .1)
+loop-again c = let fed = c .before .before .before in
+    let at = fed .before .before .before in
+    check-more (at .loop .inv) (search needs) (fed .feed .ensures) (c .before .step .given .1)
 
 loop-again-2 : tie.Need-loop-again-2 Inv-loop μ-loop
-loop-again-2 c = check-field (c .before .before .before .before .before .before .loop .inv) (search needs) (c .before .before .before .feed .ensures) (c .before .step2 .given .1)
+loop-again-2 c = let fed = c .before .before .before in
+    let at = fed .before .before .before in
+    check-field (at .loop .inv) (search needs) (fed .feed .ensures) (c .before .step2 .given .1)
 
 add-records : tie.Need-add-records Inv-loop μ-loop
 add-records c = omega (arith, c .before .before .before .before .before .before .loop .inv .fewer)
 
 loop-again-3 : tie.Need-loop-again-3 Inv-loop μ-loop
-loop-again-3 c = check-record (c .before .before .before .before .before .before .loop .inv) (search needs) (c .before .before .before .feed .ensures) (c .before .enum-told .given .1)
-    (c .begin2 .ensures)
+loop-again-3 c = let fed = c .before .before .before in
+    let at = fed .before .before .before in
+    check-record (at .loop .inv) (search needs) (fed .feed .ensures) (c .before .enum-told .given .1) (c .begin2 .ensures)
 
 returns : tie.Need-returns Inv-loop μ-loop
-returns c = check-breaks (c .before .before .before .before .before .loop .inv) (search needs) (c .before .before .feed .ensures) (c .enum-told2 .given .1)
+returns c = let fed = c .before .before in
+    let at = fed .before .before .before in
+    check-breaks (at .loop .inv) (search needs) (fed .feed .ensures) (c .enum-told2 .given .1)
 
 add-t17 : tie.Need-add-t17 Inv-loop μ-loop
-add-t17 c = omega (arith, check-last (c .before .before .before .before .loop .inv) (c .before .before .text-end .ensures) (λ none. absurd (Last≢Nothing (sym (c .enum-told4 .given .1) ∙ none))))
+add-t17 c = let end = c .before .before in
+    let at = end .before .before in
+    omega (arith, check-last (at .loop .inv) (end .text-end .ensures) (λ none. absurd (Last≢Nothing (sym (c .enum-told4 .given .1) ∙ none))))
 
 add-t18 : tie.Need-add-t18 Inv-loop μ-loop
-add-t18 c = omega (arith, check-last (c .before .before .before .before .loop .inv) (c .before .before .text-end .ensures) (λ none. absurd (Cut≢Nothing (sym (c .enum-told5 .given .1) ∙ none))))
+add-t18 c = let end = c .before .before in
+    let at = end .before .before in
+    omega (arith, check-last (at .loop .inv) (end .text-end .ensures) (λ none. absurd (Cut≢Nothing (sym (c .enum-told5 .given .1) ∙ none))))
 
 returns-2 : tie.Need-returns-2 Inv-loop μ-loop
-returns-2 c = check-ends (c .before .before .before .before .loop .inv) (search needs) (sym (c .enum-told3 .given .1) ∙ c .before .before .text-end .ensures)
+returns-2 c = let end = c .before .before in
+    let at = end .before .before in
+    check-ends (at .loop .inv) (search needs) (sym (c .enum-told3 .given .1) ∙ end .text-end .ensures)
 
 returns-3 : tie.Need-returns-3 Inv-loop μ-loop
-returns-3 c = check-ends (c .before .before .before .before .loop .inv) (search needs) (sym (c .enum-told4 .given .1) ∙ c .before .before .text-end .ensures)
+returns-3 c = let end = c .before .before in
+    let at = end .before .before in
+    check-ends (at .loop .inv) (search needs) (sym (c .enum-told4 .given .1) ∙ end .text-end .ensures)
 
 returns-4 : tie.Need-returns-4 Inv-loop μ-loop
-returns-4 c = check-ends (c .before .before .before .before .loop .inv) (search needs) (sym (c .enum-told5 .given .1) ∙ c .before .before .text-end .ensures)
+returns-4 c = let end = c .before .before in
+    let at = end .before .before in
+    check-ends (at .loop .inv) (search needs) (sym (c .enum-told5 .given .1) ∙ end .text-end .ensures)
 
 pub check-text-spec : {M : Type 1} → statement M
 check-text-spec =

@@ -18,15 +18,19 @@ returns c = let n = c .before .before .text .given .0 .0 in
 
 returns-2 : tie.Need-returns-2
 unfolding fit
-returns-2 c = let n = c .before .before .before .text .given .0 .0 in
-    let a = c .before .before .before .before .before .args in
-    rw (c .before .before .before .text .given .1) (rw (le-leb (n * a .fields) (a .room) (le-div-iff-mul-le (pos-of-ne-zero (c .before .if1 .left)) .0 (c .if2 .taken))))
+returns-2 c = let text = c .before .before .before in
+    let a = text .before .before .args in
+    let n = text .text .given .0 .0 in
+    let few = le-div-iff-mul-le (pos-of-ne-zero (c .before .if1 .left)) .0 (c .if2 .taken) in
+    rw (text .text .given .1) (rw (le-leb (n * a .fields) (a .room) few))
 
 returns-3 : tie.Need-returns-3
 unfolding fit
-returns-3 c = let n = c .before .before .before .text .given .0 .0 in
-    let a = c .before .before .before .before .before .args in
-    rw (c .before .before .before .text .given .1) (rw (lt-leb (n * a .fields) (a .room) (div-lt-iff-lt-mul (pos-of-ne-zero (c .before .if1 .left)) .0 (c .if2 .left))))
+returns-3 c = let text = c .before .before .before in
+    let a = text .before .before .args in
+    let n = text .text .given .0 .0 in
+    let many = div-lt-iff-lt-mul (pos-of-ne-zero (c .before .if1 .left)) .0 (c .if2 .left) in
+    rw (text .text .given .1) (rw (lt-leb (n * a .fields) (a .room) many))
 
 returns-4 : tie.Need-returns-4
 unfolding fit

@@ -11,19 +11,21 @@ returns c = rw (c .before .before .text .given .1) (rw (eq-eqb (c .before .befor
 
 returns-2 : tie.Need-returns-2
 unfolding one
-returns-2 c = rw (c .before .before .before .text .given .1) (rw (ne-eqb (c .before .before .before .text .given .0 .0) 0 (c .before .if1 .left)) (rw (eq-eqb (c .before .before .before .text .given .0 .0) 1 (c .if2 .taken))))
+returns-2 c = let text = c .before .before .before .text .given in
+    rw (text .1) (rw (ne-eqb (text .0 .0) 0 (c .before .if1 .left)) (rw (eq-eqb (text .0 .0) 1 (c .if2 .taken))))
 
 returns-3 : tie.Need-returns-3
 unfolding one
-returns-3 c = rw (c .before .before .before .text .given .1) (rw (ne-eqb (c .before .before .before .text .given .0 .0) 0 (c .before .if1 .left)) (rw (ne-eqb (c .before .before .before .text .given .0 .0) 1 (c .if2 .left))))
+returns-3 c = let text = c .before .before .before .text .given in
+    rw (text .1) (rw (ne-eqb (text .0 .0) 0 (c .before .if1 .left)) (rw (ne-eqb (text .0 .0) 1 (c .if2 .left))))
 
 returns-4 : tie.Need-returns-4
 unfolding one
-returns-4 c = rw (c .before .before .text2 .given .1) (rw (le-leb (c .before .before .text2 .given .0 .0) 1 (c .if3 .taken)))
+returns-4 c = let text = c .before .before .text2 .given in rw (text .1) (rw (le-leb (text .0 .0) 1 (c .if3 .taken)))
 
 returns-5 : tie.Need-returns-5
 unfolding one
-returns-5 c = rw (c .before .before .text2 .given .1) (rw (lt-leb (c .before .before .text2 .given .0 .0) 1 (c .if3 .left)))
+returns-5 c = let text = c .before .before .text2 .given in rw (text .1) (rw (lt-leb (text .0 .0) 1 (c .if3 .left)))
 
 returns-6 : tie.Need-returns-6
 unfolding one

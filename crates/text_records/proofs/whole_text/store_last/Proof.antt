@@ -7,7 +7,10 @@ use Rattle.text_records.proofs.whole_text.store_last.Tie as tie
 
 returns : tie.Need-returns
 unfolding numbersOn numbersFrom
-returns c = rw (sym (c .before .before .before .before .before .before .before .feed .ensures), c .before .before .before .before .before .step .given .1) (c .before .before .put .ensures)
+returns c = let put = c .before .before in
+    let is-field = put .before .before .before in
+    let fed = is-field .before .before in
+    rw (sym (fed .feed .ensures), is-field .step .given .1) (put .put .ensures)
 
 returns-2 : tie.Need-returns-2
 unfolding numbersOn numbersFrom

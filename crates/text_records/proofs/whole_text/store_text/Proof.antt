@@ -18,24 +18,34 @@ loop-holds : tie.Need-loop-holds Inv-loop μ-loop
 loop-holds c = stores-from _ _ _ (c .begin .ensures)
 
 loop-again : tie.Need-loop-again Inv-loop μ-loop
-loop-again c = store-more (c .before .before .before .before .before .before .loop .inv) (search needs) (c .before .before .before .feed .ensures) (c .before .step .given .1)
+loop-again c = let fed = c .before .before .before in
+    let at = fed .before .before .before in
+    store-more (at .loop .inv) (search needs) (fed .feed .ensures) (c .before .step .given .1)
 
 add-place : tie.Need-add-place Inv-loop μ-loop
 add-place c = omega (arith, c .before .before .before .before .before .before .before .before .before .before .loop .inv .fewer)
 
 loop-again-2 : tie.Need-loop-again-2 Inv-loop μ-loop
-loop-again-2 c = store-field (c .before .before .before .before .before .before .before .before .before .before .loop .inv) (search needs)
-    (c .before .before .before .before .before .before .before .feed .ensures) (c .before .before .before .before .before .step2 .given .1) (c .before .before .put .ensures)
+loop-again-2 c = let put = c .before .before in
+    let is-field = put .before .before .before in
+    let fed = is-field .before .before in
+    let at = fed .before .before .before in
+    store-field (at .loop .inv) (search needs) (fed .feed .ensures) (is-field .step2 .given .1) (put .put .ensures)
 
 loop-again-3 : tie.Need-loop-again-3 Inv-loop μ-loop
-loop-again-3 c = store-record (c .before .before .before .before .before .before .loop .inv) (search needs) (c .before .before .before .feed .ensures) (c .before .enum-told .given .1)
-    (c .begin2 .ensures)
+loop-again-3 c = let fed = c .before .before .before in
+    let at = fed .before .before .before in
+    store-record (at .loop .inv) (search needs) (fed .feed .ensures) (c .before .enum-told .given .1) (c .begin2 .ensures)
 
 returns : tie.Need-returns Inv-loop μ-loop
-returns c = store-breaks (c .before .before .before .before .before .loop .inv) (search needs) (c .before .before .feed .ensures) (c .enum-told2 .given .1)
+returns c = let fed = c .before .before in
+    let at = fed .before .before .before in
+    store-breaks (at .loop .inv) (search needs) (fed .feed .ensures) (c .enum-told2 .given .1)
 
 returns-2 : tie.Need-returns-2 Inv-loop μ-loop
-returns-2 c = c .before .before .store-last .ensures ∙ store-ends (c .before .before .before .before .before .loop .inv) (search needs)
+returns-2 c = let last = c .before .before in
+    let at = last .before .before .before in
+    last .store-last .ensures ∙ store-ends (at .loop .inv) (search needs)
 
 pub store-text-spec : {M : Type 1} → statement M
 store-text-spec =

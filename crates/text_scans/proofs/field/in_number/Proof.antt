@@ -26,8 +26,10 @@ returns c = rw (rw (c .before .before .is-digit .ensures) at (c .before .if1 .ta
 
 add-t13 : tie.Need-add-t13
 add-t13 c = let a = c .before .before .before .before .args in
-    let test = both-hold (eqb (a .byte) 44) (c .before .followed .result) (both-hold (eqb (a .byte) 44 && c .before .followed .result) (ltb (a .bytes) 16384) (c .if2 .taken) .0) .1 in
-    omega (arith, ltb-true (a .field + 1) (a .fields) (sym (c .before .followed .ensures) ∙ test))
+    let followed = c .before .followed in
+    let before-end = both-hold (eqb (a .byte) 44 && followed .result) (ltb (a .bytes) 16384) (c .if2 .taken) .0 in
+    let test = both-hold (eqb (a .byte) 44) (followed .result) before-end .1 in
+    omega (arith, ltb-true (a .field + 1) (a .fields) (sym (followed .ensures) ∙ test))
 
 add-t14 : tie.Need-add-t14
 add-t14 c = let a = c .before .before .before .before .args in
@@ -40,17 +42,19 @@ returns-2 c = rw (rw (c .before .before .before .is-digit .ensures) at (c .befor
 
 returns-3 : tie.Need-returns-3
 unfolding inNumber
-returns-3 c = let a = c .before .before .before .before .before .before .args in
+returns-3 c = let test = c .before .before in
+    let first = test .before .before in
+    let a = first .before .before .args in
     let last : (eqb (a .byte) CR && eqb (a .field + 1) (a .fields)) ≡ true = rw (c .before .is-last .ensures) at (c .if3 .taken) in
-    rw (rw (c .before .before .before .before .before .is-digit .ensures) at (c .before .before .before .before .if1 .left))
-    (rw (rw (c .before .before .before .followed .ensures) at (c .before .before .if2 .left)) (rw last))
+    rw (rw (first .before .is-digit .ensures) at (first .if1 .left)) (rw (rw (test .before .followed .ensures) at (test .if2 .left)) (rw last))
 
 returns-4 : tie.Need-returns-4
 unfolding inNumber
-returns-4 c = let a = c .before .before .before .before .before .before .args in
+returns-4 c = let test = c .before .before in
+    let first = test .before .before in
+    let a = first .before .before .args in
     let last : (eqb (a .byte) CR && eqb (a .field + 1) (a .fields)) ≡ false = rw (c .before .is-last .ensures) at (c .if3 .left) in
-    rw (rw (c .before .before .before .before .before .is-digit .ensures) at (c .before .before .before .before .if1 .left))
-    (rw (rw (c .before .before .before .followed .ensures) at (c .before .before .if2 .left)) (rw last))
+    rw (rw (first .before .is-digit .ensures) at (first .if1 .left)) (rw (rw (test .before .followed .ensures) at (test .if2 .left)) (rw last))
 
 pub in-number-spec : {M : Type 1} → statement M
 in-number-spec =

@@ -86,10 +86,6 @@ unfolding feed inNumber longer
 feeds-next fields f y v d digit some fits room =
     let same : 48 + d - 48 ≡ d = omega arith in
     rw (le-leb 48 (48 + d) (omega arith), le-leb (48 + d) 57 (omega arith), same, ne-eqb v 0 some, le-leb (v * 10 + d) 4294967295 fits, lt-ltb y 16384 room)
-
-pub feeds-comma : (fields f y v : ℕ) → f + 1 < fields → y < LONGEST → feed (Number f y v) COMMA fields ≡ Field f v (Start (f + 1) (y + 1))
-unfolding feed inNumber
-feeds-comma fields f y v more room = rw (lt-ltb (f + 1) fields more, lt-ltb y 16384 room)
 
 pub feeds-return : (fields f y v : ℕ) → f + 1 ≡ fields → feed (Number f y v) CR fields ≡ Field f v Return
 unfolding feed inNumber

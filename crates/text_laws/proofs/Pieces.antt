@@ -5,14 +5,14 @@ use mathlib.Core.List.{List, [], _∷_, _++_}
 use native.Mathlib.Omega.{arith}
 use lib.ListN.{length, set, drop}
 use Rattle.text_scans.specs.Scans.{begin, feed, ended}
-use Rattle.text_records.specs.Reads.{readOf, readOn, rowOf, rowOn, endOf, textFrom, textOn}
+use Rattle.text_records.specs.Reads.{readFrom, readOn, rowFrom, rowOn, textAtEnd, textFrom, textOn}
 use Rattle.text_scans.specs.declared.Scan.{Scan}
 use Rattle.text_scans.specs.declared.Step.{Step}
 use Rattle.text_scans.specs.declared.Step.the-variants.{More, Field, Complete, Breaks}
 use Rattle.text_records.specs.declared.Read.{Read}
 use Rattle.text_records.specs.declared.Read.the-variants.{Record, Part, Broken}
 use Rattle.text_records.specs.declared.Text.{Text}
 use Rattle.text_records.specs.declared.Text.the-variants.{BrokenAt}
 
 -- a chunk that is used up is followed by the next, from where the reading stands; a record that is complete or broken is not
 unfoldable pub nextRead : ℕ → ℕ → Read → List ℕ → Read
@@ -26,7 +26,7 @@ nextRow fields (Part scan) row chunk = rowOn fields scan row chunk
 nextRow fields Broken row chunk = row
 
 pub read-in-pieces : (fields at : ℕ) (s : Scan) (a b : List ℕ) → readOn fields at s (a ++ b) ≡ nextRead fields (at + length a) (readOn fields at s a) b
-unfolding readOn readOf nextRead
+unfolding readOn readFrom nextRead
 read-in-pieces fields at s [] b = ap (λ (k : ℕ). readOn fields k s b) (omega arith)
 read-in-pieces fields at s (byte ∷ a) b = by (feed s byte fields) (λ next. read-in-pieces fields (at + 1) next a b)
   where
@@ -35,20 +35,20 @@ read-in-pieces fields at s (byte ∷ a) b = by (feed s byte fields) (λ next. re
     on next e = e ∙ ap (λ (k : ℕ). nextRead fields k (readOn fields (at + 1) next a) b) (omega arith)
 
     by : (step : Step) → ((next : Scan) → readOn fields (at + 1) next (a ++ b) ≡ nextRead fields (at + 1 + length a) (readOn fields (at + 1) next a) b)
-        → readOf step (λ next. readOn fields (at + 1) next (a ++ b)) (at + 1) ≡ nextRead fields (at + suc (length a)) (readOf step (λ next. readOn fields (at + 1) next a) (at + 1)) b
+        → readFrom step (λ next. readOn fields (at + 1) next (a ++ b)) (at + 1) ≡ nextRead fields (at + suc (length a)) (readFrom step (λ next. readOn fields (at + 1) next a) (at + 1)) b
     by (More next) same = on next (same next)
     by (Field f v next) same = on next (same next)
     by Complete same = refl
     by Breaks same = refl
 
 pub row-in-pieces : (fields at : ℕ) (s : Scan) (row a b : List ℕ) → rowOn fields s row (a ++ b) ≡ nextRow fields (readOn fields at s a) (rowOn fields s row a) b
-unfolding readOn readOf rowOn rowOf nextRow
+unfolding readOn readFrom rowOn rowFrom nextRow
 row-in-pieces fields at s row [] b = refl
 row-in-pieces fields at s row (byte ∷ a) b = by (feed s byte fields) (λ next now. row-in-pieces fields (at + 1) next now a b)
   where
     by : (step : Step) → ((next : Scan) (now : List ℕ) → rowOn fields next now (a ++ b) ≡ nextRow fields (readOn fields (at + 1) next a) (rowOn fields next now a) b)
-        → rowOf step (λ next now. rowOn fields next now (a ++ b)) row
-        ≡ nextRow fields (readOf step (λ next. readOn fields (at + 1) next a) (at + 1)) (rowOf step (λ next now. rowOn fields next now a) row) b
+        → rowFrom step (λ next now. rowOn fields next now (a ++ b)) row
+        ≡ nextRow fields (readFrom step (λ next. readOn fields (at + 1) next a) (at + 1)) (rowFrom step (λ next now. rowOn fields next now a) row) b
     by (More next) same = same next row
     by (Field f v next) same = same next (set row f v)
     by Complete same = refl
@@ -61,7 +61,7 @@ moved by (Part scan) = Part scan
 moved by Broken = Broken
 
 pub read-elsewhere : (fields at by : ℕ) (s : Scan) (bytes : List ℕ) → readOn fields (at + by) s bytes ≡ moved by (readOn fields at s bytes)
-unfolding readOn readOf moved
+unfolding readOn readFrom moved
 read-elsewhere fields at by s [] = refl
 read-elsewhere fields at by s (byte ∷ rest) = cases (feed s byte fields) (λ next. read-elsewhere fields (at + 1) by next rest)
   where
@@ -69,7 +69,7 @@ read-elsewhere fields at by s (byte ∷ rest) = cases (feed s byte fields) (λ n
     there = omega arith
 
     cases : (step : Step) → ((next : Scan) → readOn fields (at + 1 + by) next rest ≡ moved by (readOn fields (at + 1) next rest))
-        → readOf step (λ next. readOn fields (at + by + 1) next rest) (at + by + 1) ≡ moved by (readOf step (λ next. readOn fields (at + 1) next rest) (at + 1))
+        → readFrom step (λ next. readOn fields (at + by + 1) next rest) (at + by + 1) ≡ moved by (readFrom step (λ next. readOn fields (at + 1) next rest) (at + 1))
     cases (More next) same = rw there (same next)
     cases (Field f v next) same = rw there (same next)
     cases Complete same = ap Record there
@@ -95,7 +95,7 @@ progress fields (stopped place) (byte ∷ rest) = stopped place
 
 -- what the text is found to be if it ends there
 unfoldable pub foundAt : ℕ → Progress → Text
-foundAt fields (reading n scan) = endOf (ended scan fields) n
+foundAt fields (reading n scan) = textAtEnd (ended scan fields) n
 foundAt fields (stopped place) = BrokenAt place
 
 pub stays-stopped : (fields place : ℕ) (bytes : List ℕ) → progress fields (stopped place) bytes ≡ stopped place
@@ -134,12 +134,12 @@ found-by-progress fields n s (byte ∷ rest) =
 
 -- a complete record ends after where its reading began
 pub reaches-on : (fields at : ℕ) (s : Scan) (bytes : List ℕ) (after : ℕ) → readOn fields at s bytes ≡ Record after → at < after
-unfolding readOn readOf
+unfolding readOn readFrom
 reaches-on fields at s [] after e = absurd (let z : _≡_ {A = ℕ} 0 1 = cc in omega arith)
 reaches-on fields at s (byte ∷ rest) after e = by (feed s byte fields) (λ next h. reaches-on fields (at + 1) next rest after h) e
   where
     by : (step : Step) → ((next : Scan) → readOn fields (at + 1) next rest ≡ Record after → at + 1 < after)
-        → readOf step (λ next. readOn fields (at + 1) next rest) (at + 1) ≡ Record after → at < after
+        → readFrom step (λ next. readOn fields (at + 1) next rest) (at + 1) ≡ Record after → at < after
     by (More next) on e = omega (arith, on next e)
     by (Field f v next) on e = omega (arith, on next e)
     by Complete on e = let same : at + 1 ≡ after = cc in omega arith
@@ -152,7 +152,7 @@ nextProgress fields n at (Part scan) bytes = reading n scan
 nextProgress fields n at Broken bytes = stopped (n + 1)
 
 pub progress-by-records : (fields n at : ℕ) (s : Scan) (bytes : List ℕ) → progress fields (reading n s) bytes ≡ nextProgress fields n at (readOn fields at s bytes) bytes
-unfolding readOn readOf progress progressOf nextProgress
+unfolding readOn readFrom progress progressOf nextProgress
 progress-by-records fields n at s [] = refl
 progress-by-records fields n at s (byte ∷ rest) = by (feed s byte fields) (λ next. progress-by-records fields n (at + 1) next rest)
   where
@@ -164,7 +164,7 @@ progress-by-records fields n at s (byte ∷ rest) = by (feed s byte fields) (λ 
     on Broken past = refl
 
     by : (step : Step) → ((next : Scan) → progress fields (reading n next) rest ≡ nextProgress fields n (at + 1) (readOn fields (at + 1) next rest) rest)
-        → progressOf step n (λ next. progress fields next rest) ≡ nextProgress fields n at (readOf step (λ next. readOn fields (at + 1) next rest) (at + 1)) (byte ∷ rest)
+        → progressOf step n (λ next. progress fields next rest) ≡ nextProgress fields n at (readFrom step (λ next. readOn fields (at + 1) next rest) (at + 1)) (byte ∷ rest)
     by (More next) same = same next ∙ on (readOn fields (at + 1) next rest) (reaches-on fields (at + 1) next rest)
     by (Field f v next) same = same next ∙ on (readOn fields (at + 1) next rest) (reaches-on fields (at + 1) next rest)
     by Complete same = let one : at + 1 - at ≡ suc zero = omega arith in rw one

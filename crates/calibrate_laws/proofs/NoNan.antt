@@ -1,7 +1,7 @@
 -- What holds of signs and finiteness once numbers 1, 9 and 10 have passed: capacity and critical are finite and not
 -- negative, speed and wave are above zero, jam is not negative. No NaN is in the diagram or in a row value, so number 11 is
 -- never asked of one. Assumes nothing.
-use Prim.Native.Nat.{ℕ, zero, suc, _+_, _-_, _*_, _^_, _≤_}
+use Prim.Native.Nat.{ℕ, zero, suc, _+_, _*_, _^_, _≤_}
 use mathlib.Core.Path.{_≡_, refl}
 use mathlib.Core.Bool.{Bool, true, false, not, true≢false}
 use mathlib.Core.List.{List, [], _∷_, foldl}
@@ -13,14 +13,14 @@ use lib.Ieee.{Float, lt}
 use lib.ListN.{length, take, drop}
 use Rattle.whole.specs.Search.{pick}
 use Rattle.whole.specs.Lists.{build}
 use Rattle.calibrate_fit.specs.declared.Sample.{Sample}
 use Rattle.calibrate_fit.specs.declared.Sample.the-variants.{Good, Unusable}
 use Rattle.whole.proofs.Tests.{both-hold}
 use Rattle.calibrate_fit.specs.declared.Sums.{Sums}
 use Rattle.calibrate_rows.specs.declared.Diagram.{Diagram}
 use Rattle.calibrate_rows.specs.Doubles.{_⊕_, _⊖_, _⊘_, double, isZero}
-use Rattle.calibrate_fit.specs.Diagrams.{adds, sum, ratio, flowByDensity, densitySquared, speedSums, larger, largestFlow, isAbove, above, gapByExcess, excessSquared, waveSums, diagramOf, isEmpty, fits}
-use Rattle.calibrate_fit.proofs.Signs.{UpTo, NotNegative, Above, AtMost, up-to-more, not-negative, at-most-up-to, double-up-to, add-up-to, mul-up-to, sub-up-to, div-above-sign, add-sign, above-zero, less-at-most, not-less-at-most, at-most-self, at-most-trans}
+use Rattle.calibrate_fit.specs.Diagrams.{adds, sumOver, ratio, flowByDensity, densitySquared, speedSums, larger, largestFlow, isAbove, above, gapByExcess, excessSquared, waveSums, diagramOf, isEmpty, canBeFitted}
+use Rattle.calibrate_laws.proofs.Signs.{UpTo, NotNegative, Above, AtMost, up-to-more, not-negative, at-most-up-to, double-up-to, add-up-to, mul-up-to, sub-up-to, div-above-sign, add-sign, above-zero, less-at-most, not-less-at-most, at-most-self, at-most-trans}
 
 -- a fact of flow and density that holds of a sample, and of each sample of a list
 abbrev pub Of : (Float → Float → Type 0) → Sample → Type 0
@@ -69,7 +69,7 @@ each-term fact term most bound [] h = tt
 each-term fact term most bound (Good flow density ∷ rest) h = (bound flow density (h .0), each-term fact term most bound rest (h .1))
 each-term fact term most bound (Unusable cause ∷ rest) h = (tt, each-term fact term most bound rest (h .1))
 
-sum-up-to : (fact : Float → Float → Type 0) (term : Float → Float → Float) (most : ℕ) → most ≤ 245_760_000 → ((flow density : Float) → fact flow density → UpTo most (term flow density)) → (all : List Sample) → length all ≤ 65_536 → Each fact all → UpTo many (sum term all)
+sum-up-to : (fact : Float → Float → Type 0) (term : Float → Float → Float) (most : ℕ) → most ≤ 245_760_000 → ((flow density : Float) → fact flow density → UpTo most (term flow density)) → (all : List Sample) → length all ≤ 65_536 → Each fact all → UpTo many (sumOver term all)
 sum-up-to fact term most small bound all few each =
     sums-up-to term most many (lit≤ tt) all (double 0) 0 (double-up-to 0 (lit≤ tt)) (each-term fact term most bound all each)
     (le-trans (le-of-eq (zero-add (length all * most))) (le-trans (mul-le-mul few small) (lit≤ tt)))
@@ -145,7 +145,7 @@ pub record Sound (diagram : Diagram) : Type 0 where
   pub wave : Above (diagram .wave)
   pub jam : NotNegative (diagram .jam)
 
-module _ (free all : List Sample) (few-free : length free ≤ 65_536) (few : length all ≤ 65_536) (usual-free : Each Usual free) (usual : Each Usual all) (fit : fits free all ≡ true) where
+module _ (free all : List Sample) (few-free : length free ≤ 65_536) (few : length all ≤ 65_536) (usual-free : Each Usual free) (usual : Each Usual all) (fit : canBeFitted free all ≡ true) where
   abbrev diagram : Diagram
   diagram = diagramOf free all
 
@@ -164,7 +164,7 @@ module _ (free all : List Sample) (few-free : length free ≤ 65_536) (few : len
     over : isEmpty (above (diagram .critical) all) ≡ false
 
   passed : Passed
-  unfolding fits
+  unfolding canBeFitted
   passed =
       let over = both-hold _ _ fit in
       let wave = both-hold _ _ (over .0) in

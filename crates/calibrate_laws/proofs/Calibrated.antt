@@ -4,44 +4,45 @@ use Prim.Native.Nat.{ℕ, _-_, _*_, _^_, _≤_, _<_}
 use mathlib.Core.Path.{_≡_, refl, sym, _∙_, subst}
 use mathlib.Core.Bool.{Bool, true, false, _&&_, true≢false, false≢true}
 use mathlib.Core.List.{List}
-use native.Mathlib.Nat.{le-trans}
+use native.Mathlib.Nat.{le-trans, le-div-iff-mul-le}
 use native.Mathlib.Omega.{arith}
-use borrow.Author.Tests.{leb-true, eqb-true, eq-eqb, le-leb, ltb-false}
+use borrow.Author.Tests.{leb-true, eqb-true, eq-eqb, le-leb}
 use lib.IntN.{ℤ}
-use lib.Dec.{T, ltb, leb, lit≤, lit<}
+use lib.Dec.{T, leb, lit≤, lit<}
 use lib.Ieee.{Float, nan, inf, fin, binary64, up, down, le, lt, eq, ofInt, mul, div}
 use lib.Ieee.Positive as positive
 use lib.ListN.{length, take, drop, length-take, length-drop}
 use Rattle.whole.specs.Search.{pick, within}
-use Rattle.whole.proofs.Search.{all-pass}
 use Rattle.layout.specs.declared.Row.{Row}
 use Rattle.refusals.specs.declared.Answer.{Answer}
 use Rattle.refusals.specs.declared.Answer.the-variants.{Accepted, Refused}
-use Rattle.refusals.specs.Checks.{Check, least, orLater, answer, lengths}
+use Rattle.refusals.specs.Checks.{orLater, answer, lengths}
 use Rattle.accept_ranges.specs.Ranges.{rowInRange}
+use Rattle.whole.proofs.Search.{Passes}
 use Rattle.whole.proofs.Tests.{both-hold}
+use Rattle.refusals.proofs.Answers.{accepted-passes}
 use Rattle.calibrate_fit.specs.declared.Settings.{Settings}
 use Rattle.calibrate_fit.specs.declared.Sample.{Sample}
 use Rattle.calibrate_fit.specs.declared.Sample.the-variants.{Good, Unusable}
 use Rattle.calibrate_fit.specs.declared.Cause.the-variants.{FlowNotFinite, FlowOutOfRange, OccupancyNotFinite, OccupancyOutOfRange}
 use Rattle.calibrate_rows.specs.declared.Diagram.{Diagram}
 use Rattle.calibrate_rows.specs.declared.RowValues.{RowValues}
 use Rattle.calibrate_rows.specs.declared.RowNumbers.{RowNumbers}
 use Rattle.calibrate_fit.specs.declared.FitAnswer.the-variants.{Fitted}
 use Rattle.calibrate_rows.specs.declared.RowAnswer.the-variants.{Made}
 use Rattle.calibrate_fit.specs.declared.Calibration.the-variants.{Calibrated}
 use Rattle.calibrate_rows.specs.Doubles.{_⊗_, _⊘_, double, finite, between, isZero, unsigned}
 use Rattle.calibrate_fit.specs.Samples.{vehicleFits, lanesFit, flowInRange, occupancyInRange, density, sampleOf, sampleAt, samples}
-use Rattle.calibrate_fit.specs.Diagrams.{freeOf, fits}
-use Rattle.calibrate_rows.specs.RowNumbers.{share, rowValues, rowNumbers, roundedDown, valueFits}
-use Rattle.calibrate_fit.specs.Calibration.{lengthsFit, settingsFit, samplesUsable, diagramFits, fitChecks, calibrationChecks, fittedDiagram, fittedValues, fitOf, calibrationOf}
-use Rattle.calibrate_rows.specs.Rows.{cellFits, cellSettingsFit, settingUsable, valuesFit, rowChecks, rowOf}
-use Rattle.calibrate_rows.proofs.Rounding.{double-positive, in-limits, rounded-least, rounded-most}
-use Rattle.calibrate_rows.proofs.Answers.{values-fit, made-by}
-use Rattle.calibrate_fit.proofs.Answers.{accepted-lengths, lengths-fit, fitted-by, calibrated-by, settings-in-range, cell-in-range}
+use Rattle.calibrate_fit.specs.Diagrams.{freeOf, canBeFitted}
+use Rattle.calibrate_rows.specs.RowNumbers.{speedShare, rowValues, rowNumbers, roundedDown, valueFits}
+use Rattle.calibrate_fit.specs.Calibration.{lengthsFit, settingsFit, samplesUsable, diagramFits, fitChecks, calibrationChecks, fittedDiagram, fittedValues, calibratedAs, fitOf, calibrationOf}
+use Rattle.calibrate_rows.specs.Rows.{cellFits, cellSettingsFit, settingUsable, valuesFit, makingChecks, rowMade}
+use Rattle.calibrate_rows.proofs.Rounding.{denominator-pos, double-positive, InLimits, in-limits, rounded-most}
+use Rattle.calibrate_rows.proofs.Answers.{made-by}
+use Rattle.calibrate_fit.proofs.Answers.{lengths-fit, fitted-by, settings-in-range, cell-in-range}
 use Rattle.calibrate_fit.proofs.Passes.{samples-length}
-use Rattle.calibrate_fit.proofs.Signs.{UpTo, NotNegative, AtLeastOneOver, up-to-more, not-negative, le-value, double-up-to, mul-up-to, div-up-to, mul-sign, div-sign, above-sign}
-use Rattle.calibrate_fit.proofs.NoNan.{Of, Each, each-built, each-drop, each-take, Usual, Sound, sound}
+use Rattle.calibrate_laws.proofs.Signs.{UpTo, NotNegative, AtLeastOneOver, up-to-more, not-negative, le-value, double-up-to, mul-up-to, div-up-to, mul-sign, div-sign, above-sign}
+use Rattle.calibrate_laws.proofs.NoNan.{Of, Each, each-built, each-drop, each-take, Usual, Sound, sound}
 
 yes : {b : Bool} → b ≡ true → T b
 yes e = subst T (sym e) tt
@@ -153,7 +154,7 @@ module _ (period : ℕ) (cell : Float) (fit : cellSettingsFit period cell ≡ tr
       (positive.mul-mono binary64 (double 3_600) (double 3_600) lowest cell tt tt tt cell-positive tt (cell-between .0))
       (positive.mul-mono binary64 (double 3_600) (double 3_600) cell (double 8) tt tt cell-positive tt tt (cell-between .1))
 
-  share-sign : (speed : Float) → NotNegative speed → NotNegative (share speed period cell)
+  share-sign : (speed : Float) → NotNegative speed → NotNegative (speedShare speed period cell)
   share-sign speed h =
       mul-sign ((speed ⊗ double period) ⊘ (double 3_600 ⊗ cell)) (double 65_536)
       (div-sign (speed ⊗ double period) (double 3_600 ⊗ cell) (mul-sign speed (double period) h period-positive) hours-positive)
@@ -177,14 +178,10 @@ module _ (period : ℕ) (cell : Float) (fit : cellSettingsFit period cell ≡ tr
 
 -- ---- the answers
 
--- a check that stands in an accepted answer fails nowhere, and what comes after it is accepted
-accepted-passes : (check : Check) (later : Answer) → Accepted ≡ orLater check later → (check .places ≤ least check) × (Accepted ≡ later)
-unfolding orLater
-accepted-passes check later e = by (ltb (least check) (check .places)) refl e
-  where
-    by : (b : Bool) → ltb (least check) (check .places) ≡ b → Accepted ≡ pick b (Refused (check .refusal (least check))) later → (check .places ≤ least check) × (Accepted ≡ later)
-    by true h e = let never : _≡_ {A = ℕ} 0 1 = cc in absurd (omega arith)
-    by false h e = (ltb-false (least check) (check .places) h, e)
+-- what an answer of the calibration tells
+calibrated-by : (a : Answer) (diagram : Diagram) (values : RowValues) {found : Diagram} {numbers : RowNumbers} → Calibrated found numbers ≡ calibratedAs a diagram values → (Accepted ≡ a) × (numbers ≡ rowNumbers values)
+calibrated-by Accepted diagram values e = (refl, cc)
+calibrated-by (Refused r) diagram values e = (cc, cc)
 
 stretch-length : (start end : ℕ) (all : List Sample) → length (take (end - start) (drop start all)) ≤ length all
 stretch-length start end all = simp (length-take, length-drop) (omega arith)
@@ -196,23 +193,20 @@ module _ (settings : Settings) (flow occupancy : List Float) {diagram : Diagram}
   is : (Accepted ≡ answer (fitChecks settings flow occupancy)) × (diagram ≡ fittedDiagram settings flow occupancy)
   is = fitted-by (answer (fitChecks settings flow occupancy)) (fittedDiagram settings flow occupancy) e
 
-  fit-is : lengthsFit settings flow occupancy ≡ true
-  fit-is = accepted-lengths (lengthsFit settings flow occupancy) _ (is .0)
+  after-none : (Passes 1 (λ _. lengthsFit settings flow occupancy)) × (orLater (samplesUsable settings flow occupancy) (orLater (diagramFits settings flow occupancy) Accepted) ≡ Accepted)
+  after-none = accepted-passes (lengths (lengthsFit settings flow occupancy)) _ (sym (is .0))
 
-  after-1 : Accepted ≡ orLater (samplesUsable settings flow occupancy) (orLater (diagramFits settings flow occupancy) Accepted)
-  after-1 = accepted-passes _ _ (is .0) .1
-
-  after-9 : (samplesUsable settings flow occupancy .places ≤ least (samplesUsable settings flow occupancy)) × (Accepted ≡ orLater (diagramFits settings flow occupancy) Accepted)
-  after-9 = accepted-passes (samplesUsable settings flow occupancy) _ after-1
+  after-1 : orLater (diagramFits settings flow occupancy) Accepted ≡ Accepted
+  after-1 = accepted-passes (samplesUsable settings flow occupancy) _ (after-none .1) .1
 
   settings-fit : settingsFit settings ≡ true
   settings-fit = settings-in-range settings flow occupancy (is .0)
 
-  fits-is : fits (freeOf settings flow occupancy) all ≡ true
-  fits-is = all-pass 1 (diagramFits settings flow occupancy .test) refl (accepted-passes (diagramFits settings flow occupancy) _ (after-9 .1) .0) 0 (lit< tt)
+  fits-is : canBeFitted (freeOf settings flow occupancy) all ≡ true
+  fits-is = accepted-passes (diagramFits settings flow occupancy) _ after-1 .0 0 (lit< tt)
 
   few : length all ≤ 65_536
-  few = rw (samples-length settings flow occupancy) (lengths-fit settings flow occupancy fit-is .few)
+  few = rw (samples-length settings flow occupancy) (lengths-fit settings flow occupancy (after-none .0 0 (lit< tt)) .few)
 
   usual : Each Usual all
   unfolding samples
@@ -239,31 +233,34 @@ abbrev withoutRamps : RowNumbers → Row
 withoutRamps numbers =
     record { v = numbers .v; w = numbers .w; capacity = numbers .capacity; jam = numbers .jam; on = 0; x = 0; c = 0; off = 0; b = 0 }
 
+-- what is rounded down is at least 1
+rounded-least : (x : Float) (limit : ℕ) → InLimits limit x → 1 ≤ roundedDown x
+rounded-least x limit inside = le-div-iff-mul-le (denominator-pos x) .1 (omega (arith, inside .least))
+
 number-within : (limit : ℕ) (x : Float) → limit ≤ 2 ^ 53 → 0 < limit → valueFits limit x ≡ true → within 1 limit (roundedDown x) ≡ true
 number-within limit x fits p h =
     let inside = in-limits limit fits p x h in
     rw (le-leb 1 (roundedDown x) (rounded-least x limit inside), le-leb (roundedDown x) limit (rounded-most x limit inside))
 
 -- values that fit are rounded down to numbers in range
-numbers-in-range : (values : RowValues) → 4 ≤ least (valuesFit values) → rowInRange (withoutRamps (rowNumbers values)) ≡ true
+numbers-in-range : (values : RowValues) → Passes 4 (valuesFit values .test) → rowInRange (withoutRamps (rowNumbers values)) ≡ true
 unfolding rowInRange rowNumbers
-numbers-in-range values passed =
-    let fit = values-fit values refl passed in
+numbers-in-range values fit =
     rw
-    (number-within 65_536 (values .v) (lit≤ tt) (lit< tt) (fit .0), number-within 65_536 (values .w) (lit≤ tt) (lit< tt) (fit .1 .0), number-within 1_000_000 (values .capacity) (lit≤ tt) (lit< tt) (fit .1 .1 .0), number-within 4_000_000 (values .jam) (lit≤ tt) (lit< tt) (fit .1 .1 .1))
+    (number-within 65_536 (values .v) (lit≤ tt) (lit< tt) (fit 0 (lit< tt)), number-within 65_536 (values .w) (lit≤ tt) (lit< tt) (fit 1 (lit< tt)), number-within 1_000_000 (values .capacity) (lit≤ tt) (lit< tt) (fit 2 (lit< tt)), number-within 4_000_000 (values .jam) (lit≤ tt) (lit< tt) (fit 3 (lit< tt)))
 
-pub made-in-range : (diagram : Diagram) (period : ℕ) (cell : Float) {numbers : RowNumbers} → Made numbers ≡ rowOf diagram period cell → rowInRange (withoutRamps numbers) ≡ true
+pub made-in-range : (diagram : Diagram) (period : ℕ) (cell : Float) {numbers : RowNumbers} → Made numbers ≡ rowMade diagram period cell → rowInRange (withoutRamps numbers) ≡ true
 made-in-range diagram period cell e =
     let values = rowValues diagram period cell in
-    let made = made-by (answer (rowChecks diagram period cell)) values e in
-    let after = accepted-passes (settingUsable period cell) _ (made .0) in
+    let made = made-by (answer (makingChecks diagram period cell)) values e in
+    let after = accepted-passes (settingUsable period cell) _ (sym (made .0)) in
     rw (made .1) (numbers-in-range values (accepted-passes (valuesFit values) _ (after .1) .0))
 
 pub calibrated-in-range : (settings : Settings) (flow occupancy : List Float) {diagram : Diagram} {numbers : RowNumbers} → Calibrated diagram numbers ≡ calibrationOf settings flow occupancy → rowInRange (withoutRamps numbers) ≡ true
 calibrated-in-range settings flow occupancy e =
     let values = fittedValues settings flow occupancy in
     let made = calibrated-by (answer (calibrationChecks settings flow occupancy)) (fittedDiagram settings flow occupancy) values e in
-    let after-1 = accepted-passes (lengths (lengthsFit settings flow occupancy)) _ (made .0) in
+    let after-1 = accepted-passes (lengths (lengthsFit settings flow occupancy)) _ (sym (made .0)) in
     let after-9 = accepted-passes (samplesUsable settings flow occupancy) _ (after-1 .1) in
     let after-10 = accepted-passes (diagramFits settings flow occupancy) _ (after-9 .1) in
     rw (made .1) (numbers-in-range values (accepted-passes (valuesFit values) _ (after-10 .1) .0))

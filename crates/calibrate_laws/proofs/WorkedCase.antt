@@ -4,15 +4,15 @@ use mathlib.Core.Path.{_≡_, refl}
 use mathlib.Core.List.{List, [], _∷_}
 use lib.Ieee.{Float, ofInt, add, sub, mul, div, lt, le, eq}
 use Rattle.refusals.specs.Checks.{orLater}
 use Rattle.calibrate_fit.specs.declared.Settings.{Settings}
 use Rattle.calibrate_rows.specs.declared.Diagram.{Diagram}
 use Rattle.calibrate_rows.specs.declared.RowNumbers.{RowNumbers}
 use Rattle.calibrate_fit.specs.declared.Calibration.the-variants.{Calibrated}
 use Rattle.calibrate_rows.specs.Doubles.{_⊘_, double}
 use Rattle.calibrate_fit.specs.Samples.{sampleOf, samples}
-use Rattle.calibrate_fit.specs.Diagrams.{diagramOf, fits}
+use Rattle.calibrate_fit.specs.Diagrams.{diagramOf, canBeFitted}
 use Rattle.calibrate_rows.specs.RowNumbers.{rowNumbers}
 use Rattle.calibrate_fit.specs.Calibration.{calibrationOf}
 
 abbrev settings : Settings
 settings = record { g = double 1 ⊘ double 256; lanes = 1; period = 10; cell = double 1 ⊘ double 2; start = 0; end = 2 }
@@ -30,5 +30,5 @@ abbrev numbers : RowNumbers
 numbers = record { v = 21_845; w = 5_461; capacity = 5_333; jam = 80_000 }
 
 pub worked-case : calibrationOf settings flow occupancy ≡ Calibrated diagram numbers
-unfolding ofInt add sub mul div lt le eq orLater sampleOf samples diagramOf fits rowNumbers
+unfolding ofInt add sub mul div lt le eq orLater sampleOf samples diagramOf canBeFitted rowNumbers
 worked-case = refl

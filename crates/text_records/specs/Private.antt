@@ -1,3 +1,4 @@
+-- Cited by private contracts and proofs alone: no public promise rests on this file.
 -- Fields read at once: reading on from one place of a chunk comes to what reading on from a later place comes to.
 use Prim.Native.Nat.{ℕ, _+_, _-_, _≤_, _<_}
 use mathlib.Core.Path.{_≡_}
@@ -14,7 +15,7 @@ use Rattle.text_records.specs.declared.Place.{Place}
 
 -- from an index, a scan and a row to a later index, scan and row
 pub record Comes (chunk : List ℕ) (fields at : ℕ) (scan : Scan) (row : List ℕ) (to : ℕ) (next : Scan) (later : List ℕ) : Type 0 where
-  pub answer : readOn fields at scan (drop at chunk) ≡ readOn fields to next (drop to chunk)
+  pub finds : readOn fields at scan (drop at chunk) ≡ readOn fields to next (drop to chunk)
   pub stores : rowOn fields scan row (drop at chunk) ≡ rowOn fields next later (drop to chunk)
 
 -- the digits after those that make `first`, in any field of a record that is not too long by then
@@ -26,7 +27,7 @@ pub record DigitsRead (chunk : List ℕ) (from stop first : ℕ) (r : Digits) : 
 
 -- the rest of a field that is not the record's last, up to its comma and with it
 pub record FieldRead (chunk : List ℕ) (from stop : ℕ) (begun : ℕ → ℕ → Scan) (number next : ℕ) : Type 0 where
-  pub on : from < next
+  pub further : from < next
   pub ends : next ≤ stop
   pub reads : (fields field bytes : ℕ) (row : List ℕ) → field + 1 < fields → bytes + (next - from) ≤ LONGEST
       → Comes chunk fields from (begun field bytes) row next (Start (field + 1) (bytes + (next - from))) (set row field number)

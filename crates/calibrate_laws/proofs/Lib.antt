@@ -1,0 +1,4 @@
+pub mod Signs
+pub mod NoNan
+pub mod Calibrated
+pub mod WorkedCase
