@@ -9,10 +9,10 @@ ghost use Rattle.layout.specs.Layout.{cells, stateLength, demandLength};
 ghost use Rattle.refusals.specs.Checks.{least};
 ghost use Rattle.accept_rows.specs.Acceptance.{stateInRange, demandInRange, queuesHold};
 ghost use Rattle.layout.specs.Corridor.{corridorOf};
-use layout::*;
 use accept_ranges::demand_fits;
 use accept_ranges::queue_holds;
 use accept_ranges::state_fits;
+use layout::*;
 
 // Number 5 at a position, 0 for the entry.
 fn state_fits_at(table: &[u32], state: &[u32], position: usize) -> bool

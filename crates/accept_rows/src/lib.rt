@@ -11,13 +11,13 @@ ghost use Rattle.layout.specs.Corridor.{corridorOf};
 
 mod checks;
 
+use accept_tables::accept_table;
+use accept_tables::table_length_fits;
 use layout::cells;
 use layout::demand_length;
 use layout::state_length;
 use refusals::Answer;
 use refusals::Refusal;
-use accept_tables::accept_table;
-use accept_tables::table_length_fits;
 
 // Number 1 of a table and a state.
 fn state_lengths_fit(table: &[u32], state: &[u32]) -> bool

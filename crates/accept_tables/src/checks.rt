@@ -11,9 +11,9 @@ ghost use Rattle.layout.specs.Layout.{cells, rowAt, rampAt};
 ghost use Rattle.refusals.specs.Checks.{least};
 ghost use Rattle.accept_ranges.specs.Ranges.{rowInRange, roomShared};
 ghost use Rattle.accept_tables.specs.Tables.{rampsOnce};
-use layout::*;
 use accept_ranges::room_shared;
 use accept_ranges::row_in_range;
+use layout::*;
 
 // Number 2 or 3 of a cell row.
 fn row_fits(row: Row, number: u32) -> bool

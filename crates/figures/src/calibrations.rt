@@ -1,9 +1,9 @@
 // Document 01's worked calibration, and after it a calibration that is refused with each of its numbers.
 use calibrate_fit::Calibration;
 use calibrate_fit::Settings;
-use refusals::Answer;
 use calibrate_rows::Diagram;
 use calibrate_rows::RowNumbers;
+use refusals::Answer;
 
 // Prints the whole part of a double from 0 to 2^64, which is all of it for those below; else a question mark.
 fn print_whole(x: f64) {

@@ -9,10 +9,10 @@ ghost use Rattle.figwimple.specs.Words.{wordOf, Placed};
 ghost use Rattle.figwimple.specs.Calls.{PeriodCalled, RunCalled, RecutCalled, settingsOf, fiveOf, fourOf, resultsFit, CalibrateCalled};
 use calibrate_fit::Calibration;
 use calibrate_fit::Settings;
-use refusals::Answer;
-use refusals::Refusal;
 use calibrate_rows::Diagram;
 use calibrate_rows::RowNumbers;
+use refusals::Answer;
+use refusals::Refusal;
 
 // The word of an answer whose place is below 2^32.
 fn word(answered: Answer) -> u64

@@ -62,9 +62,11 @@ stored-cell Before After n list start i (value ∷ values) (column ∷ rest) h l
     tail : List ℕ → List ℕ
     tail [] = []
     tail (x ∷ xs) = xs
+
     head : List ℕ → ℕ
     head [] = 0
     head (x ∷ xs) = x
+
     by : (k : ℕ) → k < n → After k → Dec (k ≡ i) → getD (set list (start + i) value) (start + k) 0 ≡ column k
     by k below meant (yes at) = rw at (getD-set-same list (start + i) value 0 (omega arith) ∙ ap head (own (rw at at meant)))
     by k below meant (no elsewhere) =

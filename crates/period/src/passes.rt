@@ -135,27 +135,11 @@ fn pass_node(
             mode: own.mode,
         },
     );
-    own_at(
-        n,
-        table,
-        state,
-        demand,
-        i - 1,
-        m,
-        passed.main,
-        passed.clear,
-    )
+    own_at(n, table, state, demand, i - 1, m, passed.main, passed.clear)
 }
 
 // The node between the entry and the first cell, which sends its own: what that cell does is stored, and the entry flow.
-fn pass_entry(
-    n: usize,
-    table: &[u32],
-    state: &[u32],
-    demand: &[u32],
-    sheet: &mut [u32],
-    own: Sent,
-)
+fn pass_entry(n: usize, table: &[u32], state: &[u32], demand: &[u32], sheet: &mut [u32], own: Sent)
     requires { ⌜ Workable n (corridorOf (now table) (now state)) (now demand) 0 ⌝ }
     requires { ⌜ (entryQueue (now state) + entryDemand (now demand) ≤ 1_000_000_000) × (length (now sheet) ≡ sheetLength n) ⌝ }
     requires { ⌜ own ≡ ownAt asymmetric (corridorOf (now table) (now state)) (now demand) 0 ⌝ }

@@ -12,8 +12,8 @@ use crate::turns::last_read;
 use crate::turns::turn;
 use crate::turns::turn_of;
 use crate::turns::written_to;
-use program_files::counted;
 use layout::cells;
+use program_files::counted;
 use refusals::Answer;
 use text_scans::Scan;
 

@@ -9,10 +9,10 @@ ghost use Rattle.text_records.specs.Texts.{textOf};
 ghost use Rattle.layout.specs.Layout.{stateLength};
 ghost use Rattle.layout.specs.Sheet.{sheetLength};
 ghost use Rattle.program_steps.specs.Lines.{HEADER, entryRecord, cellRecord, periodText, stopText, lineWritten, afterLine};
-use text_digits::Written;
-use program_files::Stop;
 use layout::sheet::*;
 use layout::*;
+use program_files::Stop;
+use text_digits::Written;
 
 fn wide(number: u32) -> u64
     ensures { λ r. ⌜ r ≡ number ⌝ }

@@ -8,13 +8,13 @@ ghost use Rattle.program_steps.specs.Turns.{didRow, lastRead, did, rowAn
 use crate::Turn;
 use crate::lines::put_period;
 use crate::lines::put_stop;
+use layout::cells;
 use program_files::broken;
 use program_files::refused_in;
-use layout::cells;
 use refusals::Answer;
+use text_records::Read;
 use text_scans::End;
 use text_scans::Scan;
-use text_records::Read;
 
 // A complete row of period k: 6 and 7, then its period and its lines.
 fn run_row(

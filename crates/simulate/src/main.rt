@@ -7,15 +7,15 @@ ghost use lib.ListN.{length};
 ghost use mathlib.Core.List.{[]};
 ghost use Rattle.text_scans.specs.Scans.{begin};
 ghost use Rattle.simulate.specs.Loops.{SomeRead, FileRead, Goes, GoesOn};
-use text_digits::Written;
 use program_files::File;
 use program_files::Found;
 use program_files::Reading;
 use program_files::Stop;
-use text_scans::Scan;
 use program_steps::Run;
 use program_steps::demand;
 use program_steps::lines;
+use text_digits::Written;
+use text_scans::Scan;
 
 // What one read of a file came to.
 pub enum Got {
