@@ -1,12 +1,15 @@
 // A run of periods, one for each demand row: the table and the state are checked once, before the first row.
 ghost use mathlib.Core.Path.{_≡_};
-ghost use mathlib.Core.Bool.{true};
-ghost use lib.ListN.{length};
-ghost use Rattle.refusals.specs.Checks.{answer};
-ghost use Rattle.accept_rows.specs.Acceptance.{stateLengthsFit, stateNumbers};
+ghost use Rattle.layout.specs.Layout.{Listed};
+ghost use Rattle.layout.specs.Corridor.{corridorOf};
 ghost use Rattle.accept_limits.specs.Limits.{demandLimits};
-ghost use Rattle.period_run.specs.Run.{runListsFit, RowsDone, RunDone};
+ghost use Rattle.period.specs.Sharing.{asymmetric};
+ghost use Rattle.period_run.specs.Run.{runListsFit, RunDone};
+ghost use Rattle.period_run.specs.Private.{Runnable, RowsDone};
 use layout::cells;
+use layout::demand_length;
+use layout::demand_space;
+use layout::sheet::sheet_length;
 use refusals::Answer;
 use refusals::Refusal;
 
@@ -16,13 +19,15 @@ pub struct Ran {
     pub answer: Answer,
 }
 
-// Number 1 of a run's demand rows and sheet.
-fn run_lists_fit(table: &[u32], demand: &[u32], sheet: &[u32]) -> bool
-    ensures { λ r. ⌜ r ≡ runListsFit (now (table .entry)) (now (demand .entry)) (now (sheet .entry)) ⌝ }
+// Number 1 of the demand rows and the sheet of a run of n cells.
+fn run_lists_fit(n: usize, demand: &[u32], sheet: &[u32]) -> bool
+    requires { ⌜ Listed n ⌝ }
+    ensures { λ r. ⌜ r ≡ runListsFit n (now (demand .entry)) (now (sheet .entry)) ⌝ }
 {
-    let n = cells(table);
-    let width = 2 * n + 1;
-    (demand.len() % width == 0) & (demand.len() / width <= 4_096) & (sheet.len() == 4 * n + 1)
+    let width = demand_length(n);
+    (demand.len() % width == 0)
+        & (demand.len() / width <= 4_096)
+        & (sheet.len() == sheet_length(n))
 }
 
 // The rows of a run whose table and state are accepted. They are not checked again: the state after an accepted period is accepted.
@@ -33,26 +38,24 @@ fn run_rows(
     demand: &[u32],
     sheet: &mut [u32],
 ) -> Ran
-    requires { ⌜ runListsFit (now table) (now demand) (now sheet) ≡ true ⌝ }
-    requires { ⌜ stateLengthsFit (now table) (now state) ≡ true ⌝ }
-    requires { ⌜ answer (stateNumbers (now table) (now state)) ≡ Answer.Accepted ⌝ }
+    requires { ⌜ Runnable (corridorOf (now table) (now state)) (now demand) (now sheet) ⌝ }
     requires { ⌜ now limits ≡ demandLimits (now table) ⌝ }
-    ensures { λ r. ⌜ RowsDone (now (table .entry)) (now (state .entry)) (now (demand .entry)) (now (sheet .entry)) r (now (state .exit)) (now (sheet .exit)) ⌝ }
+    ensures { λ r. ⌜ RowsDone asymmetric (corridorOf (now (table .entry)) (now (state .entry))) (now (demand .entry)) (now (sheet .entry)) r (now (state .exit)) (now (sheet .exit)) ⌝ }
 {
-    let width = 2 * cells(table) + 1;
+    let width = demand_length(cells(table));
     let rows = demand.len() / width;
     let mut k = 0;
     let mut at = 0;
     while k < rows {
         let row = &demand[at..at + width];
         let checked = accept_limits::accept_demand(table, limits, state, row);
-        let found = period::run_row(checked, table, state, row, sheet);
-        if let Answer::Refused(refusal) = found {
+        if let Answer::Refused(refusal) = checked {
             return Ran {
                 periods: k,
                 answer: Answer::Refused(refusal),
             };
         }
+        period::run_accepted(table, state, row, sheet);
         at += width;
         k += 1;
     }
@@ -62,22 +65,14 @@ fn run_rows(
     }
 }
 
-// The limits of 512 cells.
-fn limits_space() -> [u32; 1_025]
-    ensures { λ r. ⌜ 1_025 ≡ length r ⌝ }
-{
-    [0; 1_025]
-}
-
 // The rows of such a run, with the limits of their numbers worked out first.
 fn run_within_limits(table: &[u32], state: &mut [u32], demand: &[u32], sheet: &mut [u32]) -> Ran
-    requires { ⌜ runListsFit (now table) (now demand) (now sheet) ≡ true ⌝ }
-    requires { ⌜ stateLengthsFit (now table) (now state) ≡ true ⌝ }
-    requires { ⌜ answer (stateNumbers (now table) (now state)) ≡ Answer.Accepted ⌝ }
-    ensures { λ r. ⌜ RowsDone (now (table .entry)) (now (state .entry)) (now (demand .entry)) (now (sheet .entry)) r (now (state .exit)) (now (sheet .exit)) ⌝ }
+    requires { ⌜ Runnable (corridorOf (now table) (now state)) (now demand) (now sheet) ⌝ }
+    ensures { λ r. ⌜ RowsDone asymmetric (corridorOf (now (table .entry)) (now (state .entry))) (now (demand .entry)) (now (sheet .entry)) r (now (state .exit)) (now (sheet .exit)) ⌝ }
 {
-    let mut space = limits_space();
-    let limits: &mut [u32] = &mut space[..2 * cells(table) + 1];
+    let width = demand_length(cells(table));
+    let mut space = demand_space();
+    let limits: &mut [u32] = &mut space[..width];
     accept_limits::demand_limits(table, limits);
     run_rows(table, limits, state, demand, sheet)
 }
@@ -85,9 +80,9 @@ fn run_within_limits(table: &[u32], state: &mut [u32], demand: &[u32], sheet: &m
 // A run of demand rows end to end: numbers 1 to 5 first, then 6 and 7 at each row. Refused at a later row it leaves the state after the
 // completed periods and the last one's sheet.
 pub fn run(table: &[u32], state: &mut [u32], demand: &[u32], sheet: &mut [u32]) -> Ran
-    ensures { λ r. ⌜ RunDone (now (table .entry)) (now (state .entry)) (now (demand .entry)) (now (sheet .entry)) r (now (state .exit)) (now (sheet .exit)) ⌝ }
+    ensures { λ r. ⌜ RunDone asymmetric (corridorOf (now (table .entry)) (now (state .entry))) (now (demand .entry)) (now (sheet .entry)) r (now (state .exit)) (now (sheet .exit)) ⌝ }
 {
-    if !run_lists_fit(table, demand, sheet) {
+    if !run_lists_fit(cells(table), demand, sheet) {
         return Ran {
             periods: 0,
             answer: Answer::Refused(Refusal::Length),

@@ -4,7 +4,7 @@ use Rattle.period_run.proofs.run_lists_fit.Statement.{statement}
 use Rattle.period_run.proofs.run_lists_fit.Tie as tie
 
 returns : tie.Need-returns
-returns c = cc
+returns c = rw (c .sheet-length .ensures, c .before .demand-length .ensures)
 
 pub run-lists-fit-spec : {M : Type 1} → statement M
 run-lists-fit-spec =
@@ -13,8 +13,5 @@ run-lists-fit-spec =
     (λ c κs. search needs)
     (λ c. search needs)
     (λ c. search needs)
-    (λ c. search needs)
-    (λ c. search needs)
-    (λ c. search needs)
-    (λ c. search needs)
+    (λ c κs. search needs)
     returns)
