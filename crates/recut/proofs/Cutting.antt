@@ -86,7 +86,7 @@ module _ {old : Corridor} {pieces new list : List ℕ} {piece : Piece} {n given 
     -- one more, as the loop meets it
     pub goes-on : {list′ : List ℕ} {given′ : ℕ} {cell : Cell} {piece′ : Piece} → cell ≡ pieceCell old piece (row .jam) → list′ ≡ withCell n list j cell → piece′ ≡ nextPiece pieces piece (row .jam) → given′ ≡ pick (eqb (piece′ .number) 0) 0 (given + cell .count) → Cutting old pieces new n list′ piece′ given′ (j + 1)
     unfolding pieceAt withCell
-    goes-on {cell = cell} cell-is stored next gives =
+    goes-on {cell = cell} cell-is put next gives =
         record {
           known = at .known;
           all = at .all;
@@ -94,7 +94,7 @@ module _ {old : Corridor} {pieces new list : List ℕ} {piece : Piece} {n given 
           piece-is = rw (add-one j) (next ∙ rw (row-is, at .piece-is));
           given-is = gives ∙ rw (next, cell-is) (gives-on work (at .given-is) pieces);
           laid =
-              rw (stored, at .all)
+              rw (put, at .all)
               (laying-cell (cells new) list (stateColumns (newCell old pieces new)) (at .laid) below refl (λ k below other. omega arith)
               (λ _. ap (λ c. c .count ∷ c .queue ∷ []) (cell-is ∙ rw (row-is, at .piece-is))));
         }
@@ -102,5 +102,5 @@ module _ {old : Corridor} {pieces new list : List ℕ} {piece : Piece} {n given 
   -- with Q the state is whole
   pub ends : {list′ : List ℕ} {queue : ℕ} → n ≤ j → queue ≡ entryQueueOf old → list′ ≡ withEntry list queue → list′ ≡ newState old pieces new
   unfolding stateOf
-  ends h queue stored =
-      stored ∙ rw queue (laying-whole (cells new) list (stateColumns (newCell old pieces new)) (at .laid) (λ k below. omega (arith, at .all)))
+  ends h queue put =
+      put ∙ rw queue (laying-whole (cells new) list (stateColumns (newCell old pieces new)) (at .laid) (λ k below. omega (arith, at .all)))

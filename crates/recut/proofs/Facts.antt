@@ -135,8 +135,8 @@ module _ (old : Corridor) (pieces new : List ℕ) (known : CutFits old pieces ne
   abbrev piece : Piece
   piece = pieceAt pieces new j
 
-  pub the-piece : On pieces new (cellsOf old) (cells new) (λ i below. known .each i below .some) (known .sums) j (pieceAt pieces new j)
-  the-piece = on-piece pieces new (cellsOf old) (cells new) (λ i below. known .each i below .some) (known .sums) j h
+  pub the-piece : On (cellsOf old) pieces new j (pieceAt pieces new j)
+  the-piece = on-piece (cellsOf old) (cells new) pieces new (λ i below. known .each i below .some) (known .sums) j h
 
   -- the jam counts up to and with the piece are those of its cell's first pieces
   pub jams-with : piece .before + rowAt new j .jam ≡ jamBefore new (firstPiece pieces (piece .cell)) (piece .number + 1)

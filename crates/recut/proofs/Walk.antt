@@ -17,7 +17,7 @@ pub jams-more : (new : List ℕ) (first k j : ℕ) {before : ℕ} → j ≡ firs
 unfolding jamBefore
 jams-more new first k j at e = rw (add-one k, at, e)
 
-module _ (pieces new : List ℕ) (n total : ℕ) (some : (i : ℕ) → i < n → 0 < pieceCount pieces i) (sums : firstPiece pieces n ≡ total) where
+module _ (n : ℕ) (pieces new : List ℕ) where
   -- the walk stands before the new cell of index j, or at the road's end
   pub record At (j : ℕ) (piece : Piece) : Type 0 where
     pub reaches : piece .cell ≤ n
@@ -32,7 +32,22 @@ module _ (pieces new : List ℕ) (n total : ℕ) (some : (i : ℕ) → i < n →
     pub at : j ≡ firstPiece pieces (piece .cell) + piece .number
     pub before-is : piece .before ≡ jamBefore new (firstPiece pieces (piece .cell)) (piece .number)
 
-  stands-on : {j : ℕ} {piece : Piece} → At j piece → j < total → On j piece
+-- a piece is followed by one of its cell, or is its cell's last
+abbrev pub Followed : List ℕ → Piece → Type 0
+Followed pieces piece = piece .number + 1 < pieceCount pieces (piece .cell)
+
+abbrev pub Last : List ℕ → Piece → Type 0
+Last pieces piece = piece .number + 1 ≡ pieceCount pieces (piece .cell)
+
+pub followed-or-last : {n j : ℕ} {pieces new : List ℕ} {piece : Piece} → On n pieces new j piece → Followed pieces piece ⊎ Last pieces piece
+followed-or-last {pieces = pieces} {piece = piece} on = by (decLt (piece .number + 1) (pieceCount pieces (piece .cell)))
+  where
+    by : Dec (Followed pieces piece) → Followed pieces piece ⊎ Last pieces piece
+    by (yes h) = inl h
+    by (no h) = inr (omega (arith, h, on .number-is))
+
+module _ (n total : ℕ) (pieces new : List ℕ) (some : (i : ℕ) → i < n → 0 < pieceCount pieces i) (sums : firstPiece pieces n ≡ total) where
+  stands-on : {j : ℕ} {piece : Piece} → At n pieces new j piece → j < total → On n pieces new j piece
   stands-on {j} {piece} walk h =
       record { cell-is = inside; number-is = walk .number-is inside; at = walk .at; before-is = walk .before-is }
     where
@@ -43,19 +58,11 @@ module _ (pieces new : List ℕ) (n total : ℕ) (some : (i : ℕ) → i < n →
       inside : piece .cell < n
       inside = by (decLt (piece .cell) n)
 
-  -- a piece is followed by one of its cell, or is its cell's last
-  pub last-or-not : {j : ℕ} {piece : Piece} → On j piece → (piece .number + 1 < pieceCount pieces (piece .cell)) ⊎ (piece .number + 1 ≡ pieceCount pieces (piece .cell))
-  last-or-not {piece = piece} on = by (decLt (piece .number + 1) (pieceCount pieces (piece .cell)))
-    where
-      by : Dec (piece .number + 1 < pieceCount pieces (piece .cell)) → (piece .number + 1 < pieceCount pieces (piece .cell)) ⊎ (piece .number + 1 ≡ pieceCount pieces (piece .cell))
-      by (yes h) = inl h
-      by (no h) = inr (omega (arith, h, on .number-is))
-
-  step : (j : ℕ) (piece : Piece) → On j piece → At (suc j) (nextPiece pieces piece (rowAt new j .jam))
+  step : (j : ℕ) (piece : Piece) → On n pieces new j piece → At n pieces new (suc j) (nextPiece pieces piece (rowAt new j .jam))
   unfolding jamBefore
-  step j piece on = by (last-or-not on)
+  step j piece on = by (followed-or-last on)
     where
-      by : (piece .number + 1 < pieceCount pieces (piece .cell)) ⊎ (piece .number + 1 ≡ pieceCount pieces (piece .cell)) → At (suc j) (nextPiece pieces piece (rowAt new j .jam))
+      by : Followed pieces piece ⊎ Last pieces piece → At n pieces new (suc j) (nextPiece pieces piece (rowAt new j .jam))
       by (inl more) =
           rw (lt-ltb (piece .number + 1) (pieceCount pieces (piece .cell)) more)
           (record {
@@ -73,25 +80,11 @@ module _ (pieces new : List ℕ) (n total : ℕ) (some : (i : ℕ) → i < n →
             before-is = refl;
           })
 
-  pub walk : (j : ℕ) → j ≤ total → At j (pieceAt pieces new j)
+  pub walk : (j : ℕ) → j ≤ total → At n pieces new j (pieceAt pieces new j)
   unfolding pieceAt jamBefore
   walk zero h = record { reaches = zero-le; number-is = some 0; at = refl; before-is = refl }
   walk (suc j) h = step j (pieceAt pieces new j) (stands-on (walk j (omega arith)) h)
 
   -- each new cell is a piece
-  pub on-piece : (j : ℕ) → j < total → On j (pieceAt pieces new j)
+  pub on-piece : (j : ℕ) → j < total → On n pieces new j (pieceAt pieces new j)
   on-piece j h = stands-on (walk j (omega arith)) h
-
-  -- after the last piece the walk has passed every cell
-  pub all-passed : (pieceAt pieces new total .cell ≡ n) × (pieceAt pieces new total .number ≡ 0)
-  all-passed = by (decLt (pieceAt pieces new total .cell) n)
-    where
-      end : At total (pieceAt pieces new total)
-      end = walk total (omega arith)
-
-      by : Dec (pieceAt pieces new total .cell < n) → (pieceAt pieces new total .cell ≡ n) × (pieceAt pieces new total .number ≡ 0)
-      by (yes inside) =
-          absurd (omega (arith, end .at, end .number-is inside, sum-grows (suc (pieceAt pieces new total .cell)) n (pieceCount pieces) inside))
-      by (no outside) =
-          let same : pieceAt pieces new total .cell ≡ n = omega (arith, outside, end .reaches) in
-          (same, omega (arith, sums, rw same at (end .at)))
