@@ -1,17 +1,15 @@
 -- Document 01, "Refusal numbers" 6: the most that each number of a demand row may be, in the row's own order.
-use Prim.Native.Nat.{ℕ, _-_}
+use Prim.Native.Nat.{ℕ}
 use mathlib.Core.List.{List}
-use lib.Dec.{ltb}
-use Rattle.whole.specs.Lists.{build}
-use Rattle.whole.specs.Search.{pick}
-use Rattle.whole.specs.Sums.{atPosition}
-use Rattle.layout.specs.Layout.{cells, rowAt, demandLength}
+use Rattle.layout.specs.declared.Row.{Row}
+use Rattle.layout.specs.declared.Demands.{Demands}
+use Rattle.layout.specs.Layout.{cells, rowAt, demandOf}
 use Rattle.accept_ranges.specs.Ranges.{withRamp, demandLimit, givenOff}
 
--- the entry, then each d, then each o
-abbrev pub limitAt : List ℕ → ℕ → ℕ
-limitAt table =
-    atPosition demandLimit λ k. pick (ltb k (cells table)) (withRamp (rowAt table k .on) demandLimit) (givenOff (rowAt table (k - cells table)))
+-- d and o of a cell
+abbrev pub cellLimits : Row → Demands
+cellLimits row = record { on = withRamp (row .on) demandLimit; off = givenOff row }
 
-unfoldable pub demandLimits : List ℕ → List ℕ
-demandLimits table = build (demandLength (cells table)) (limitAt table)
+-- the entry, then each d, then each o
+abbrev pub demandLimits : List ℕ → List ℕ
+demandLimits table = demandOf (cells table) demandLimit (λ i. cellLimits (rowAt table i))

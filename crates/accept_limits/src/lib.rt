@@ -2,31 +2,26 @@
 // walks, and only a refused one is looked at cell by cell.
 ghost use mathlib.Core.Path.{_≡_};
 ghost use mathlib.Core.Bool.{true};
-ghost use Prim.Native.Nat.{ℕ, _+_, _*_, _≤_, _<_};
+ghost use Prim.Native.Nat.{ℕ, _≤_, _<_};
 ghost use lib.Dec.{eqb, leb};
 ghost use lib.ListN.{length, getD};
 ghost use Rattle.whole.specs.Search.{pick, every};
 ghost use Rattle.layout.specs.Layout.{cells, stateLength, demandLength, queueAt, onDemandAt};
+ghost use Rattle.layout.specs.Corridor.{corridorOf};
 ghost use Rattle.refusals.specs.Checks.{answer};
 ghost use Rattle.accept_ranges.specs.Ranges.{queueLimit, queueHolds};
 ghost use Rattle.accept_rows.specs.Acceptance.{rowLengthsFit, stateNumbers, demandChecks};
-ghost use Rattle.accept_limits.specs.Limits.{limitAt, demandLimits};
+ghost use Rattle.accept_limits.specs.Limits.{cellLimits, demandLimits};
 use layout::*;
 use refusals::Answer;
 
-// The limit of the number at an index of a demand row.
-fn limit_at(table: &[u32], index: usize) -> u32
-    requires { ⌜ index < demandLength (cells (now table)) ⌝ }
-    ensures { λ r. ⌜ r ≡ limitAt (now (table .entry)) index ⌝ }
+// The limits of a cell's demands.
+fn cell_limits(row: Row) -> Demands
+    ensures { λ r. ⌜ r ≡ cellLimits row ⌝ }
 {
-    if index == 0 {
-        return 1_000_000;
-    }
-    let n = cells(table);
-    if index <= n {
-        accept_ranges::with_ramp(row_at(table, index - 1).on, 1_000_000)
-    } else {
-        accept_ranges::given_off(row_at(table, index - 1 - n))
+    Demands {
+        on: accept_ranges::with_ramp(row.on, 1_000_000),
+        off: accept_ranges::given_off(row),
     }
 }
 
@@ -34,15 +29,16 @@ fn limit_at(table: &[u32], index: usize) -> u32
 pub fn demand_limits(table: &[u32], limits: &mut [u32])
     ensures { λ _. ⌜ now (limits .exit) ≡ pick (eqb (length (now (limits .entry))) (demandLength (cells (now (table .entry))))) (demandLimits (now (table .entry))) (now (limits .entry)) ⌝ }
 {
-    let width = 2 * cells(table) + 1;
-    if limits.len() != width {
+    let n = cells(table);
+    if limits.len() != demand_length(n) {
         return;
     }
     let mut i = 0;
-    while i < width {
-        limits[i] = limit_at(table, i);
+    while i < n {
+        put_demands(limits, n, i, cell_limits(row_at(table, i)));
         i += 1;
     }
+    put_entry(limits, 1_000_000);
 }
 
 // Whether each number of a row is within its limit. No number ends the walk, so that several are compared at a time.
@@ -77,9 +73,9 @@ fn queues_hold(n: usize, state: &[u32], demand: &[u32]) -> bool
 // Whether a demand row is accepted under a table with these limits and a state that are accepted already: numbers 6 and 7.
 pub fn accept_demand(table: &[u32], limits: &[u32], state: &[u32], demand: &[u32]) -> Answer
     requires { ⌜ now limits ≡ demandLimits (now table) ⌝ }
-    requires { ⌜ rowLengthsFit (now table) (now state) (now demand) ≡ true ⌝ }
-    requires { ⌜ answer (stateNumbers (now table) (now state)) ≡ Answer.Accepted ⌝ }
-    ensures { λ r. ⌜ r ≡ answer (demandChecks (now (table .entry)) (now (state .entry)) (now (demand .entry))) ⌝ }
+    requires { ⌜ rowLengthsFit (corridorOf (now table) (now state)) (now demand) ≡ true ⌝ }
+    requires { ⌜ answer (stateNumbers (corridorOf (now table) (now state))) ≡ Answer.Accepted ⌝ }
+    ensures { λ r. ⌜ r ≡ answer (demandChecks (corridorOf (now (table .entry)) (now (state .entry))) (now (demand .entry))) ⌝ }
 {
     if within_limits(limits, demand)
         & accept_ranges::queue_holds(entry_queue(state), entry_demand(demand))

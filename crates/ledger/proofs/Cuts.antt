@@ -14,7 +14,7 @@ use Rattle.refusals.proofs.Answers.{lengths-passed}
 use Rattle.recut.specs.Recut.{newState, recutChecks}
 use Rattle.recut.proofs.Facts.{CutFits, cut-fits}
 use Rattle.recut.proofs.Done.{accepted-is-cut}
-use Rattle.recut.proofs.Kept.{new-length, cut-keeps-vehicles, cut-keeps-each-queue, cut-keeps-the-ramps, new-state-is-accepted}
+use Rattle.recut_laws.proofs.Kept.{new-length, cut-keeps-vehicles, cut-keeps-each-queue, cut-keeps-the-ramps, new-state-is-accepted}
 use Rattle.ledger.specs.Calls.{recut, leaves, accepts, letsOut, acceptsAt, letsInAt}
 use Rattle.ledger.proofs.Sound.{Sound, nothing, CallIsSound}
 

@@ -1,30 +1,45 @@
 -- What an accepted re-cut is known to start from, cell by cell and piece by piece. Assumes nothing.
 use Prim.Native.Nat.{ℕ, suc, _+_, _-_, _≤_, _<_}
-use mathlib.Core.Path.{_≡_, refl, ap, _∙_}
+use mathlib.Core.Path.{_≡_, refl}
 use mathlib.Core.Bool.{true, not, _&&_}
 use mathlib.Core.List.{List, [], _∷_}
-use native.Mathlib.Numerals.{add-one}
 use native.Mathlib.Omega.{arith}
 use borrow.Author.Tests.{eqb-true, eqb-false, not-true}
 use lib.Dec.{eqb}
 use lib.ListN.{length}
 use Rattle.whole.proofs.Sums.{sum-grows}
-use Rattle.whole.proofs.Search.{passes-every}
-use Rattle.refusals.specs.declared.Answer.the-variants.{Accepted}
-use Rattle.layout.specs.Layout.{cells, rowAt, stateLength, countAt}
-use Rattle.refusals.specs.Checks.{answer}
-use Rattle.accept_tables.specs.Tables.{tableLengthFits, tableNumbers, rowsInRange, roomsShared, rampsOnce}
-use Rattle.accept_rows.specs.Acceptance.{stateInRange}
-use Rattle.refusals.proofs.Answers.{accepted-passes, passes-accepted, both-accepted}
+use Rattle.whole.proofs.Search.{Passes, passes-every}
 use Rattle.whole.proofs.Tests.{both-hold}
+use Rattle.refusals.specs.declared.Answer.the-variants.{Accepted}
+use Rattle.refusals.specs.Checks.{Check, answer}
+use Rattle.refusals.proofs.Answers.{accepted-passes, passes-accepted, accepted-both, both-accepted}
+use Rattle.layout.specs.Layout.{MOST, cells, rowAt, stateLength}
+use Rattle.layout.specs.Corridor.{Corridor, cellsOf}
 use Rattle.accept_ranges.proofs.Ranges.{Between}
-use Rattle.accept_rows.proofs.Lengths.{cells-fit, state-length}
+use Rattle.accept_tables.specs.Tables.{tableLengthFits, tableNumbers, rowsInRange, roomsShared, rampsOnce, bothTables}
 use Rattle.accept_tables.proofs.Accepted.{TableFits, table-fits}
+use Rattle.accept_rows.specs.Acceptance.{stateInRange}
+use Rattle.accept_rows.proofs.Lengths.{cells-fit}
 use Rattle.accept_rows.proofs.Accepted.{StateFits, state-fits}
 use Rattle.recut.specs.declared.Piece.{Piece}
 use Rattle.recut.specs.Pieces.{pieceCount, firstPiece, jamBefore, keepsOnRamp, keepsOffRamp, noOtherRamp, piecesFit, cellIsCut, pieceAt}
-use Rattle.recut.specs.Recut.{Cut}
-use Rattle.recut.proofs.Walk.{On, on-piece}
+use Rattle.recut.specs.Recut.{recutListsFit, piecesNumbers, recutChecks}
+use Rattle.recut.specs.Private.{Cuttable}
+use Rattle.recut.proofs.Walk.{On, on-piece, jams-more}
+
+-- the lengths of the lists under the two tables
+pub record ListsFit (old : Corridor) (pieces new list : List ℕ) : Type 0 where
+  pub fit : recutListsFit old pieces new list ≡ true
+  pub state-length : length (old .state) ≡ stateLength (cellsOf old)
+  pub counted : length pieces ≡ cellsOf old
+  pub list-length : length list ≡ stateLength (cells new)
+
+pub lists-fit : (old : Corridor) (pieces new list : List ℕ) → recutListsFit old pieces new list ≡ true → ListsFit old pieces new list
+lists-fit old pieces new list fit =
+    let state = eqb (length (old .state)) (stateLength (cellsOf old)) in
+    let last = both-hold (state && eqb (length pieces) (cellsOf old)) _ fit in
+    let both = both-hold state _ (last .0) in
+    record { fit = fit; state-length = eqb-true _ _ (both .0); counted = eqb-true _ _ (both .1); list-length = eqb-true _ _ (last .1) }
 
 -- an old cell and its pieces
 pub record CellCut (old pieces new : List ℕ) (i : ℕ) : Type 0 where
@@ -42,12 +57,14 @@ cell-cut old pieces new i e =
     let count = pieceCount pieces i in
     let first = firstPiece pieces i in
     let row = rowAt old i in
+    let last = rowAt new (first + (count - 1)) in
+    let jams = eqb (jamBefore new first count) (row .jam) in
     let both = both-hold (not (eqb count 0)) _ e in
-    let others = both-hold (eqb (jamBefore new first count) (row .jam) && keepsOnRamp row (rowAt new first) && keepsOffRamp row (rowAt new (first + (count - 1)))) _ (both .1) in
-    let offs = both-hold (eqb (jamBefore new first count) (row .jam) && keepsOnRamp row (rowAt new first)) _ (others .0) in
-    let ons = both-hold (eqb (jamBefore new first count) (row .jam)) _ (offs .0) in
+    let others = both-hold (jams && keepsOnRamp row (rowAt new first) && keepsOffRamp row last) _ (both .1) in
+    let offs = both-hold (jams && keepsOnRamp row (rowAt new first)) _ (others .0) in
+    let ons = both-hold jams _ (offs .0) in
     let on = both-hold (eqb (rowAt new first .on) (row .on)) _ (ons .1) in
-    let off = both-hold (eqb (rowAt new (first + (count - 1)) .off) (row .off)) _ (offs .1) in
+    let off = both-hold (eqb (last .off) (row .off)) _ (offs .1) in
     record {
       some = omega (arith, eqb-false count 0 (not-true _ (both .0)));
       jams = eqb-true _ _ (ons .0);
@@ -58,72 +75,89 @@ cell-cut old pieces new i e =
       no-other = passes-every count _ (others .1);
     }
 
-pub record CutFits (old state pieces new : List ℕ) : Type 0 where
-  pub new-numbers : answer (tableNumbers new) ≡ Accepted
-  pub new-length : tableLengthFits new ≡ true
-  pub new-cells : Between 1 512 (cells new)
-  pub state-fits-it : StateFits old state
-  pub old-fits : TableFits old
-  pub counts : length pieces ≡ cells old
-  pub sums : firstPiece pieces (cells old) ≡ cells new
-  pub each : (i : ℕ) → i < cells old → CellCut old pieces new i
+abbrev PassesAll : Check → Type 0
+PassesAll check = Passes (check .places) (check .test)
 
-pub cut-fits : (old state pieces new : List ℕ) → Cut old state pieces new → CutFits old state pieces new
-cut-fits old state pieces new (tables, numbers, len, eighth) =
-    let lengths = accepted-passes _ _ tables in
-    let both = both-hold (tableLengthFits old) (tableLengthFits new) (lengths .0 0 (omega arith)) in
-    let rows = accepted-passes _ _ (lengths .1) in
+-- where two tables are accepted together, each is by itself
+each-table : (first second : List ℕ) → answer (bothTables first second) ≡ Accepted → (answer (tableNumbers first) ≡ Accepted) × (answer (tableNumbers second) ≡ Accepted)
+each-table first second e =
+    let rows = accepted-passes _ _ e in
     let rows′ = accepted-passes _ _ (rows .1) in
     let rooms = accepted-passes _ _ (rows′ .1) in
     let rooms′ = accepted-passes _ _ (rooms .1) in
     let ramps = accepted-passes _ _ (rooms′ .1) in
     let ramps′ = accepted-passes _ _ (ramps .1) in
-    let olds : answer (tableNumbers old) ≡ Accepted = passes-accepted (rowsInRange old) _ (rows .0) (passes-accepted (roomsShared old) _ (rooms .0) (passes-accepted (rampsOnce old) _ (ramps .0) refl)) in
-    let news : answer (tableNumbers new) ≡ Accepted = passes-accepted (rowsInRange new) _ (rows′ .0) (passes-accepted (roomsShared new) _ (rooms′ .0) (passes-accepted (rampsOnce new) _ (ramps′ .0) refl)) in
-    let counted = accepted-passes _ _ eighth in
+    (all first (rows .0) (rooms .0) (ramps .0), all second (rows′ .0) (rooms′ .0) (ramps′ .0))
+  where
+    all : (table : List ℕ) → PassesAll (rowsInRange table) → PassesAll (roomsShared table) → PassesAll (rampsOnce table) → answer (tableNumbers table) ≡ Accepted
+    all table rows rooms ramps =
+        passes-accepted (rowsInRange table) _ rows (passes-accepted (roomsShared table) _ rooms (passes-accepted (rampsOnce table) _ ramps refl))
+
+pub record CutFits (old : Corridor) (pieces new : List ℕ) : Type 0 where
+  pub new-numbers : answer (tableNumbers new) ≡ Accepted
+  pub new-length : tableLengthFits new ≡ true
+  pub new-cells : Between 1 MOST (cells new)
+  pub state-length : length (old .state) ≡ stateLength (cellsOf old)
+  pub state-fits-it : StateFits old
+  pub old-fits : TableFits (old .table)
+  pub counts : length pieces ≡ cellsOf old
+  pub sums : firstPiece pieces (cellsOf old) ≡ cells new
+  pub each : (i : ℕ) → i < cellsOf old → CellCut (old .table) pieces new i
+
+-- the lengths, of which number 1 asks
+pub lengths-accepted : (old : Corridor) (pieces new list : List ℕ) → answer (recutChecks old pieces new list) ≡ Accepted → (tableLengthFits new ≡ true) × ListsFit old pieces new list
+lengths-accepted old pieces new list e =
+    let both = both-hold (tableLengthFits (old .table) && tableLengthFits new) _ (accepted-passes _ _ e .0 0 (omega arith)) in
+    (both-hold (tableLengthFits (old .table)) _ (both .0) .1, lists-fit old pieces new list (both .1))
+
+pub cut-fits : (old : Corridor) (pieces new list : List ℕ) → answer (recutChecks old pieces new list) ≡ Accepted → CutFits old pieces new
+cut-fits old pieces new list e =
+    let table = old .table in
+    let lens = lengths-accepted old pieces new list e in
+    let both = accepted-both (bothTables table new) (stateInRange old ∷ piecesNumbers table pieces new) (accepted-passes _ _ e .1) in
+    let tables = each-table table new (both .0) in
+    let state = accepted-passes _ _ (both .1) in
+    let counted = accepted-passes _ _ (state .1) in
     record {
-      new-numbers = news;
-      new-length = both .1;
-      new-cells = cells-fit new (both .1);
-      state-fits-it = state-fits old state (both-accepted (tableNumbers old) (stateInRange old state ∷ []) olds (accepted-passes _ _ numbers .1));
-      old-fits = table-fits old olds;
-      counts = len;
-      sums = eqb-true (firstPiece pieces (cells old)) (cells new) (counted .0 0 (omega arith));
-      each = λ i h. cell-cut old pieces new i (accepted-passes _ _ (counted .1) .0 i h);
+      new-numbers = tables .1;
+      new-length = lens .0;
+      new-cells = cells-fit new (lens .0);
+      state-length = lens .1 .state-length;
+      state-fits-it = state-fits old (both-accepted (tableNumbers table) (stateInRange old ∷ []) (tables .0) (passes-accepted (stateInRange old) _ (state .0) refl));
+      old-fits = table-fits table (tables .0);
+      counts = lens .1 .counted;
+      sums = eqb-true (firstPiece pieces (cells table)) (cells new) (counted .0 0 (omega arith));
+      each = λ i h. cell-cut table pieces new i (accepted-passes _ _ (counted .1) .0 i h);
     }
 
 -- a piece and what the work on it asks
-module _ (old state pieces new : List ℕ) (known : CutFits old state pieces new) (j : ℕ) (h : j < cells new) where
+module _ (old : Corridor) (pieces new : List ℕ) (known : CutFits old pieces new) (j : ℕ) (h : j < cells new) where
   abbrev piece : Piece
   piece = pieceAt pieces new j
 
-  pub the-piece : On (cells old) pieces new (λ i below. known .each i below .some) j (pieceAt pieces new j)
-  the-piece = on-piece (cells old) pieces new (λ i below. known .each i below .some) (cells new) (known .sums) j h
-
-  count-within : firstPiece pieces (piece .cell) + pieceCount pieces (piece .cell) ≤ cells new
-  count-within = omega (arith, known .sums, sum-grows (suc (piece .cell)) (cells old) (pieceCount pieces) (the-piece .cell-is))
+  pub the-piece : On (cellsOf old) pieces new j (pieceAt pieces new j)
+  the-piece = on-piece (cellsOf old) (cells new) pieces new (λ i below. known .each i below .some) (known .sums) j h
 
   -- the jam counts up to and with the piece are those of its cell's first pieces
   pub jams-with : piece .before + rowAt new j .jam ≡ jamBefore new (firstPiece pieces (piece .cell)) (piece .number + 1)
+  jams-with = jams-more new (firstPiece pieces (piece .cell)) (piece .number) j (the-piece .at) (the-piece .before-is)
+
+  pub cuttable : Cuttable old (pieceAt pieces new j) (rowAt new j .jam)
   unfolding jamBefore
-  jams-with =
-      rw (add-one (piece .number))
-      (ap (λ b. b + rowAt new j .jam) (the-piece .before-is) ∙ ap (λ m. jamBefore new (firstPiece pieces (piece .cell)) (piece .number) + rowAt new m .jam) (the-piece .at))
+  cuttable =
+      let first = firstPiece pieces (piece .cell) in
+      let all = pieceCount pieces (piece .cell) in
+      record {
+        state-length = known .state-length;
+        inside = the-piece .cell-is;
+        some = known .old-fits .rows (piece .cell) (the-piece .cell-is) .jam .least;
+        held = known .state-fits-it .counts (piece .cell) (the-piece .cell-is);
+        within =
+            omega
+            (arith, jams-with, known .each (piece .cell) (the-piece .cell-is) .jams, sum-grows (piece .number + 1) all (λ m. rowAt new (first + m) .jam) (omega (arith, the-piece .number-is)));
+      }
 
-  pub jams-fit : piece .before + rowAt new j .jam ≤ rowAt old (piece .cell) .jam
-  unfolding jamBefore
-  jams-fit =
-      omega
-      (arith, jams-with, known .each (piece .cell) (the-piece .cell-is) .jams, sum-grows (piece .number + 1) (pieceCount pieces (piece .cell)) (λ m. rowAt new (firstPiece pieces (piece .cell) + m) .jam) (omega (arith, the-piece .number-is)))
-
-  pub vehicles-ask : (0 < rowAt old (piece .cell) .jam) × (countAt state (piece .cell) ≤ rowAt old (piece .cell) .jam) × (piece .before + rowAt new j .jam ≤ rowAt old (piece .cell) .jam)
-  vehicles-ask =
-      (known .old-fits .rows (piece .cell) (the-piece .cell-is) .jam .least, known .state-fits-it .counts (piece .cell) (the-piece .cell-is), jams-fit)
-
-  pub next-asks : (piece .cell < length pieces) × (piece .number < 512) × (piece .before ≤ 4_000_000)
+  pub next-asks : (piece .cell < length pieces) × (piece .number < MOST) × (piece .before ≤ 4_000_000)
   next-asks =
       omega
-      (arith, the-piece .cell-is, the-piece .number-is, known .counts, count-within, known .new-cells, jams-fit, known .old-fits .rows (piece .cell) (the-piece .cell-is) .jam .most)
-
-pub state-is-long : (old state pieces new : List ℕ) → Cut old state pieces new → length state ≡ stateLength (cells old)
-state-is-long old state pieces new (tables, numbers, len, eighth) = state-length old state (accepted-passes _ _ numbers .0 0 (omega arith))
+      (arith, the-piece .cell-is, the-piece .number-is, known .counts, known .sums, sum-grows (suc (piece .cell)) (cellsOf old) (pieceCount pieces) (the-piece .cell-is), known .new-cells, cuttable .within, known .old-fits .rows (piece .cell) (the-piece .cell-is) .jam .most)

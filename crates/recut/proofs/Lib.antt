@@ -1,8 +1,6 @@
 pub mod Walk
 pub mod Shares
-pub mod Counts
 pub mod Facts
 pub mod Cutting
-pub mod Done
+pub mod Answers
 pub mod Settled
-pub mod Kept

@@ -1,12 +1,12 @@
 // The re-cut: each old cell becomes consecutive new cells, and its vehicles, its queue and its ramps go on under the new table.
 ghost use mathlib.Core.Path.{_≡_};
 ghost use Prim.Native.Nat.{_+_, _*_, _/_, _≤_, _<_};
-ghost use lib.ListN.{length};
 ghost use lib.Dec.{eqb};
 ghost use Rattle.whole.specs.Search.{pick};
-ghost use Rattle.layout.specs.Layout.{cells, stateLength};
+ghost use Rattle.layout.specs.Corridor.{corridorOf};
 ghost use Rattle.refusals.specs.Checks.{answer};
-ghost use Rattle.recut.specs.Recut.{pieceVehicles, newState, recutListsFit, piecesNumbers, Cut, RecutDone};
+ghost use Rattle.recut.specs.Private.{givenBefore, Cuttable, Countable};
+ghost use Rattle.recut.specs.Recut.{pieceVehicles, pieceCell, newState, recutListsFit, piecesNumbers, recutChecks, RecutDone};
 
 mod pieces;
 
@@ -38,50 +38,49 @@ fn first_or_later(number: usize, first: u32, later: u32) -> u32
     if number == 0 { first } else { later }
 }
 
+// What a piece of the given jam count becomes; its cell's pieces before it got the given vehicles.
+fn piece_cell(old: &[u32], state: &[u32], piece: Piece, jam: u32, given: u32) -> Cell
+    requires { ⌜ Cuttable (corridorOf (now old) (now state)) piece jam ⌝ }
+    requires { ⌜ given ≡ givenBefore (corridorOf (now old) (now state)) piece ⌝ }
+    ensures { λ r. ⌜ r ≡ pieceCell (corridorOf (now (old .entry)) (now (state .entry))) piece jam ⌝ }
+{
+    let cell = piece.cell;
+    let row = row_at(old, cell);
+    let count = piece_vehicles(count_at(state, cell), row.jam, piece.before, jam, given);
+    let queue = queue_at(cells(old), state, cell);
+    Cell {
+        count: count,
+        queue: first_or_later(piece.number, queue, 0),
+    }
+}
+
 // The vehicles and queues of the old cells, shared out among their pieces.
 fn cut(old: &[u32], state: &[u32], pieces: &[u32], new: &[u32], list: &mut [u32])
-    requires { ⌜ Cut (now old) (now state) (now pieces) (now new) ⌝ }
-    requires { ⌜ length (now list) ≡ stateLength (cells (now new)) ⌝ }
-    ensures { λ _. ⌜ now (list .exit) ≡ newState (now (old .entry)) (now (state .entry)) (now (pieces .entry)) (now (new .entry)) ⌝ }
+    requires { ⌜ answer (recutChecks (corridorOf (now old) (now state)) (now pieces) (now new) (now list)) ≡ Answer.Accepted ⌝ }
+    ensures { λ _. ⌜ now (list .exit) ≡ newState (corridorOf (now (old .entry)) (now (state .entry))) (now (pieces .entry)) (now (new .entry)) ⌝ }
 {
-    let n = cells(old);
-    let m = cells(new);
+    let n = cells(new);
     let mut piece = Piece {
         cell: 0,
         number: 0,
         before: 0,
     };
-    let mut cell = 0;
     let mut given = 0;
     let mut j = 0;
-    while j < m {
-        let row = row_at(old, cell);
-        let new_row = row_at(new, j);
-        let vehicles = piece_vehicles(
-            count_at(state, cell),
-            row.jam,
-            piece.before,
-            new_row.jam,
-            given,
-        );
-        set_count(list, j, vehicles);
-        set_queue(
-            m,
-            list,
-            j,
-            first_or_later(piece.number, queue_at(n, state, cell), 0),
-        );
-        piece = next_piece(pieces, piece, new_row.jam);
-        cell = piece.cell;
-        given = first_or_later(piece.number, 0, given + vehicles);
+    while j < n {
+        let row = row_at(new, j);
+        let cell = piece_cell(old, state, piece, row.jam, given);
+        put_cell(list, n, j, cell);
+        piece = next_piece(pieces, piece, row.jam);
+        given = first_or_later(piece.number, 0, given + cell.count);
         j += 1;
     }
-    set_entry_queue(list, entry_queue(state));
+    put_entry(list, entry_queue(state));
 }
 
 // Number 8.
 fn pieces_numbers(old: &[u32], pieces: &[u32], new: &[u32]) -> Answer
-    requires { ⌜ (length (now pieces) ≡ cells (now old)) × (cells (now old) ≤ 512) × (cells (now new) ≤ 512) ⌝ }
+    requires { ⌜ Countable (now old) (now pieces) (now new) ⌝ }
     ensures { λ r. ⌜ r ≡ answer (piecesNumbers (now (old .entry)) (now (pieces .entry)) (now (new .entry))) ⌝ }
 {
     if total(pieces) != cells(new) {
@@ -96,17 +95,17 @@ fn pieces_numbers(old: &[u32], pieces: &[u32], new: &[u32]) -> Answer
 
 // Number 1 of a re-cut's lists under its two tables.
 fn recut_lists_fit(old: &[u32], state: &[u32], pieces: &[u32], new: &[u32], list: &[u32]) -> bool
-    ensures { λ r. ⌜ r ≡ recutListsFit (now (old .entry)) (now (state .entry)) (now (pieces .entry)) (now (new .entry)) (now (list .entry)) ⌝ }
+    ensures { λ r. ⌜ r ≡ recutListsFit (corridorOf (now (old .entry)) (now (state .entry))) (now (pieces .entry)) (now (new .entry)) (now (list .entry)) ⌝ }
 {
-    (state.len() == 2 * cells(old) + 1)
-        & (pieces.len() == cells(old))
-        & (list.len() == 2 * cells(new) + 1)
+    let n = cells(old);
+    (state.len() == state_length(n))
+        & (pieces.len() == n)
+        & (list.len() == state_length(cells(new)))
 }
 
-// The re-cut of a table and a state into a new table, with one piece count for each old cell: numbers 1 to 5 and 8. The new state goes to
-// the list; on a refusal that stays as it came.
-pub fn recut(old: &[u32], state: &[u32], pieces: &[u32], new: &[u32], list: &mut [u32]) -> Answer
-    ensures { λ r. ⌜ RecutDone (now (old .entry)) (now (state .entry)) (now (pieces .entry)) (now (new .entry)) (now (list .entry)) r (now (list .exit)) ⌝ }
+// Whether a re-cut is accepted: numbers 1 to 5 and 8.
+fn accept_recut(old: &[u32], state: &[u32], pieces: &[u32], new: &[u32], list: &[u32]) -> Answer
+    ensures { λ r. ⌜ r ≡ answer (recutChecks (corridorOf (now (old .entry)) (now (state .entry))) (now (pieces .entry)) (now (new .entry)) (now (list .entry))) ⌝ }
 {
     if !recut_lists_fit(old, state, pieces, new, list) {
         return Answer::Refused(Refusal::Length);
@@ -119,8 +118,16 @@ pub fn recut(old: &[u32], state: &[u32], pieces: &[u32], new: &[u32], list: &mut
     if let Answer::Refused(refusal) = numbers {
         return Answer::Refused(refusal);
     }
-    let eighth = pieces_numbers(old, pieces, new);
-    if let Answer::Refused(refusal) = eighth {
+    pieces_numbers(old, pieces, new)
+}
+
+// The re-cut of a table and a state into a new table, with one piece count for each old cell. The new state goes to the list; on a refusal
+// that stays as it came.
+pub fn recut(old: &[u32], state: &[u32], pieces: &[u32], new: &[u32], list: &mut [u32]) -> Answer
+    ensures { λ r. ⌜ RecutDone (corridorOf (now (old .entry)) (now (state .entry))) (now (pieces .entry)) (now (new .entry)) (now (list .entry)) r (now (list .exit)) ⌝ }
+{
+    let found = accept_recut(old, state, pieces, new, list);
+    if let Answer::Refused(refusal) = found {
         return Answer::Refused(refusal);
     }
     cut(old, state, pieces, new, list);

@@ -4,16 +4,17 @@ ghost use Prim.Native.Nat.{_+_, _≤_, _<_};
 ghost use lib.ListN.{length};
 ghost use Rattle.whole.specs.Sums.{sum};
 ghost use Rattle.whole.specs.Search.{every};
-ghost use Rattle.layout.specs.Layout.{cells, rowAt};
+ghost use Rattle.layout.specs.Layout.{MOST, cells, rowAt};
 ghost use Rattle.refusals.specs.Checks.{least};
 ghost use Rattle.recut.specs.Pieces.{pieceCount, firstPiece, jamBefore, keepsOnRamp, keepsOffRamp, noOtherRamp, piecesFit, cellIsCut, nextPiece};
 ghost use Rattle.recut.specs.Recut.{cellsAreCut};
+ghost use Rattle.recut.specs.Private.{Countable};
 use crate::Piece;
 use layout::*;
 
 // The sum of the counts: at most 512 of them, so that it fits.
 pub(crate) fn total(pieces: &[u32]) -> usize
-    requires { ⌜ length (now pieces) ≤ 512 ⌝ }
+    requires { ⌜ length (now pieces) ≤ MOST ⌝ }
     ensures { λ r. ⌜ r ≡ sum (length (now (pieces .entry))) (pieceCount (now (pieces .entry))) ⌝ }
 {
     let mut sum = 0;
@@ -27,7 +28,7 @@ pub(crate) fn total(pieces: &[u32]) -> usize
 
 // The sum of J over count new cells.
 fn jams(new: &[u32], first: usize, count: usize) -> u64
-    requires { ⌜ (first + count ≤ cells (now new)) × (cells (now new) ≤ 512) ⌝ }
+    requires { ⌜ (first + count ≤ cells (now new)) × (cells (now new) ≤ MOST) ⌝ }
     ensures { λ r. ⌜ r ≡ jamBefore (now (new .entry)) first count ⌝ }
 {
     let mut sum = 0;
@@ -77,7 +78,7 @@ fn keeps_off_ramp(old: Row, piece: Row) -> bool
 
 // Whether the pieces of an old cell keep its jam count and its ramps.
 fn pieces_fit(old: Row, new: &[u32], first: usize, count: usize) -> bool
-    requires { ⌜ (0 < count) × (first + count ≤ cells (now new)) × (cells (now new) ≤ 512) ⌝ }
+    requires { ⌜ (0 < count) × (first + count ≤ cells (now new)) × (cells (now new) ≤ MOST) ⌝ }
     ensures { λ r. ⌜ r ≡ piecesFit old (now (new .entry)) first count ⌝ }
 {
     (jams(new, first, count) == old.jam as u64)
@@ -89,7 +90,7 @@ fn pieces_fit(old: Row, new: &[u32], first: usize, count: usize) -> bool
 // Whether the old cell of index i is cut by the rules; first is its first piece.
 fn cell_is_cut(old: &[u32], pieces: &[u32], new: &[u32], i: usize, first: usize) -> bool
     requires { ⌜ (i < cells (now old)) × (i < length (now pieces)) × (first ≡ firstPiece (now pieces) i) ⌝ }
-    requires { ⌜ (first + pieceCount (now pieces) i ≤ cells (now new)) × (cells (now new) ≤ 512) ⌝ }
+    requires { ⌜ (first + pieceCount (now pieces) i ≤ cells (now new)) × (cells (now new) ≤ MOST) ⌝ }
     ensures { λ r. ⌜ r ≡ cellIsCut (now (old .entry)) (now (pieces .entry)) (now (new .entry)) i ⌝ }
 {
     let count = pieces[i] as usize;
@@ -101,7 +102,7 @@ fn cell_is_cut(old: &[u32], pieces: &[u32], new: &[u32], i: usize, first: usize)
 
 // Number 8 at the cells: the least one that is not cut by the rules.
 pub(crate) fn cells_are_cut(old: &[u32], pieces: &[u32], new: &[u32]) -> usize
-    requires { ⌜ (length (now pieces) ≡ cells (now old)) × (cells (now new) ≤ 512) ⌝ }
+    requires { ⌜ Countable (now old) (now pieces) (now new) ⌝ }
     requires { ⌜ sum (cells (now old)) (pieceCount (now pieces)) ≡ cells (now new) ⌝ }
     ensures { λ r. ⌜ r ≡ least (cellsAreCut (now (old .entry)) (now (pieces .entry)) (now (new .entry))) ⌝ }
 {
@@ -120,7 +121,7 @@ pub(crate) fn cells_are_cut(old: &[u32], pieces: &[u32], new: &[u32]) -> usize
 
 // The piece after one of the given jam count.
 pub(crate) fn next_piece(pieces: &[u32], piece: Piece, jam: u32) -> Piece
-    requires { ⌜ (piece .cell < length (now pieces)) × (piece .number < 512) × (piece .before ≤ 4_000_000) ⌝ }
+    requires { ⌜ (piece .cell < length (now pieces)) × (piece .number < MOST) × (piece .before ≤ 4_000_000) ⌝ }
     ensures { λ r. ⌜ r ≡ nextPiece (now (pieces .entry)) piece jam ⌝ }
 {
     let cell = piece.cell;

@@ -19,7 +19,8 @@ sub-all c = rw (c .queue-at .ensures) (c .before .before .before .before .before
 loop-again : tie.Need-loop-again Inv-loop μ-loop
 loop-again c =
     let more = c .before .before .loop-test .taken in
-    goes-on (c .before .before .before .loop .inv) more (rw (c .before .on-demand-at .ensures, c .queue-at .ensures) (room-holds _ _ (c .before .before .before .before .before .before .pre .1 _ more)))
+    let held = c .before .before .before .before .before .before .pre .1 _ more in
+    goes-on (c .before .before .before .loop .inv) more (rw (c .before .on-demand-at .ensures, c .queue-at .ensures) (room-holds _ _ held))
 
 returns : tie.Need-returns Inv-loop μ-loop
 returns c = ends (c .before .loop .inv) (search needs)

@@ -4,17 +4,8 @@ use Rattle.recut.proofs.recut_lists_fit.Statement.{statement}
 use Rattle.recut.proofs.recut_lists_fit.Tie as tie
 
 returns : tie.Need-returns
-returns c = rw (c .cells3 .ensures, c .before .cells2 .ensures, c .before .before .cells .ensures)
+returns c = cc
 
 pub recut-lists-fit-spec : {M : Type 1} → statement M
 recut-lists-fit-spec =
-    tie.close
-    (tie.spec
-    (λ c κs. search needs)
-    (λ c. search needs)
-    (λ c. search needs)
-    (λ c κs. search needs)
-    (λ c κs. search needs)
-    (λ c. search needs)
-    (λ c. search needs)
-    returns)
+    tie.close (tie.spec (λ c κs. search needs) (λ c κs. search needs) (λ c κs. search needs) (λ c κs. search needs) returns)

@@ -1,5 +1,5 @@
 -- `recut::pieces::cells_are_cut` meets its contract. Assumes nothing.
-use Prim.Native.Nat.{suc, _-_}
+use Prim.Native.Nat.{suc, _+_, _-_, _≤_}
 use mathlib.Core.Path.{_≡_, refl}
 use native.Mathlib.Omega.{arith}
 use borrow.Author.Needs.{needs}
@@ -20,8 +20,16 @@ abbrev μ-loop : tie.MeasureT-loop
 loop-holds : tie.Need-loop-holds Inv-loop μ-loop
 loop-holds c = (begins _ (c .cells .ensures), refl)
 
+-- the pieces of a cell are new cells
+pieces-within : (c : tie.In-loop Inv-loop μ-loop) →
+    let a = c .before .before .before .before .before .before .args in
+    c .before .loop .first + pieceCount (a .pieces .now) (c .before .loop .i) ≤ cells (a .new .now)
+pieces-within c =
+    let a = c .before .before .before .before .before .before .args in
+    omega (arith, sum-grows (suc (c .before .loop .i)) (cells (a .old .now)) (pieceCount (a .pieces .now)) (omega arith))
+
 cell-is-cut-requires : tie.Need-cell-is-cut-requires Inv-loop μ-loop
-cell-is-cut-requires c κs = ((search needs, search needs, c .before .loop .inv .1), (omega (arith, sum-grows (suc (c .before .loop .i)) (cells (c .before .before .before .before .before .before .args .old .now)) (pieceCount (c .before .before .before .before .before .before .args .pieces .now)) (omega arith)), search needs))
+cell-is-cut-requires c κs = ((search needs, search needs, c .before .loop .inv .1), (pieces-within c, search needs))
 
 returns : tie.Need-returns Inv-loop μ-loop
 returns c = found (c .before .before .before .loop .inv .0) (search needs) (c .before .cell-is-cut .ensures) (c .if1 .taken)
@@ -30,10 +38,12 @@ cast-first : tie.Need-cast-first Inv-loop μ-loop
 cast-first c = omega (arith, c .shared-slice-known4 .given (c .before .before .before .before .loop .i))
 
 add-first : tie.Need-add-first Inv-loop μ-loop
-add-first c = omega (arith, sum-grows (suc (c .before .before .before .before .loop .i)) (cells (c .before .before .before .before .before .before .before .before .before .args .old .now)) (pieceCount (c .before .before .before .before .before .before .before .before .before .args .pieces .now)) (omega arith))
+add-first c = omega (arith, pieces-within (c .before .before .before))
 
 loop-again : tie.Need-loop-again Inv-loop μ-loop
-loop-again c = (goes-on (c .before .before .before .before .loop .inv .0) (search needs) (c .before .before .cell-is-cut .ensures) (c .before .if1 .left), sum-more (c .before .before .before .before .loop .i) _ (c .before .before .before .before .loop .inv .1) refl)
+loop-again c =
+    let at = c .before .before .before .before .loop in
+    (goes-on (at .inv .0) (search needs) (c .before .before .cell-is-cut .ensures) (c .before .if1 .left), sum-more (at .i) _ (at .inv .1) refl)
 
 returns-2 : tie.Need-returns-2 Inv-loop μ-loop
 returns-2 c = not-found (c .before .loop .inv .0) (search needs)

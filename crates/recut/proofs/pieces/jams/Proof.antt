@@ -1,11 +1,10 @@
 -- `recut::pieces::jams` meets its contract. Assumes nothing.
-use Prim.Native.Nat.{_≤_, _*_, _-_, _+_}
+use Prim.Native.Nat.{_≤_, _*_, _-_}
 use mathlib.Core.Path.{_≡_, refl, ap, _∙_}
 use native.Mathlib.Omega.{arith}
 use borrow.Author.Needs.{needs}
-use Rattle.whole.proofs.Sums.{sum-more}
-use Rattle.layout.specs.Layout.{rowAt}
 use Rattle.recut.specs.Pieces.{jamBefore}
+use Rattle.recut.proofs.Walk.{jams-more}
 use Rattle.recut.proofs.pieces.jams.Statement.{statement}
 use Rattle.recut.proofs.pieces.jams.Tie as tie
 
@@ -20,8 +19,7 @@ unfolding jamBefore
 loop-holds c = (search needs, refl, search needs)
 
 loop-again : tie.Need-loop-again Inv-loop μ-loop
-unfolding jamBefore
-loop-again c = (search needs, sum-more (c .before .before .before .loop .k) (λ m. rowAt (c .before .before .before .before .before .args .new .now) (c .before .before .before .before .before .args .first + m) .jam) (c .before .before .before .loop .inv .1) (ap (λ r. r .jam) (c .before .row-at .ensures)), omega arith)
+loop-again c = (search needs, rw (c .before .row-at .ensures) (jams-more _ _ _ _ refl (c .before .before .before .loop .inv .1)), omega arith)
 
 returns : tie.Need-returns Inv-loop μ-loop
 returns c =

@@ -1,9 +1,7 @@
 -- `recut::pieces::next_piece` meets its contract. Assumes nothing.
-use Prim.Native.Nat.{_+_}
 use native.Mathlib.Omega.{arith}
 use borrow.Author.Tests.{lt-ltb, le-ltb}
 use borrow.Author.Needs.{needs}
-use Rattle.recut.specs.Pieces.{pieceCount}
 use Rattle.recut.proofs.pieces.next_piece.Statement.{statement}
 use Rattle.recut.proofs.pieces.next_piece.Tie as tie
 
@@ -11,10 +9,10 @@ cast-if1 : tie.Need-cast-if1
 cast-if1 c = omega (arith, c .shared-slice-known .given (c .before .before .args .piece .cell))
 
 returns : tie.Need-returns
-returns c = simp (lt-ltb (c .before .before .before .before .before .args .piece .number + 1) (pieceCount (c .before .before .before .before .before .args .pieces .now) (c .before .before .before .before .before .args .piece .cell)) (omega arith))
+returns c = rw (lt-ltb _ _ (c .before .before .if1 .taken))
 
 returns-2 : tie.Need-returns-2
-returns-2 c = simp (le-ltb (c .before .before .before .args .piece .number + 1) (pieceCount (c .before .before .before .args .pieces .now) (c .before .before .before .args .piece .cell)) (omega arith))
+returns-2 c = rw (le-ltb _ _ (c .if1 .left))
 
 pub next-piece-spec : {M : Type 1} → statement M
 next-piece-spec =

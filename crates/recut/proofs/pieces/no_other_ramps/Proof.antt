@@ -1,6 +1,6 @@
 -- `recut::pieces::no_other_ramps` meets its contract. Assumes nothing.
 use Prim.Native.Nat.{_-_, _+_}
-use mathlib.Core.Path.{refl, ap, _∙_}
+use mathlib.Core.Path.{_≡_, refl}
 use borrow.Author.Needs.{needs}
 use Rattle.whole.proofs.Search.{every-found, every-ends, Searching, begins, goes-on}
 use Rattle.layout.specs.Layout.{rowAt}
@@ -17,11 +17,18 @@ abbrev μ-loop : tie.MeasureT-loop
 loop-holds : tie.Need-loop-holds Inv-loop μ-loop
 loop-holds c = begins _ refl
 
+-- what the code tests is the row
+tested : (c : tie.After-no-other-ramp Inv-loop μ-loop) →
+    let at = c .before .before .before in
+    let a = at .before .before .args in
+    c .no-other-ramp .result ≡ noOtherRamp (a .count) (at .loop .k) (rowAt (a .new .now) (a .first + at .loop .k))
+tested c = rw (c .before .row-at .ensures) at (c .no-other-ramp .ensures)
+
 returns : tie.Need-returns Inv-loop μ-loop
-returns c = every-found (c .before .before .before .before .loop .inv) (search needs) (c .before .no-other-ramp .ensures ∙ ap (noOtherRamp (c .before .before .before .before .before .before .args .count) (c .before .before .before .before .loop .k)) (c .before .before .row-at .ensures)) (c .if1 .taken)
+returns c = every-found (c .before .before .before .before .loop .inv) (search needs) (tested (c .before)) (c .if1 .taken)
 
 loop-again : tie.Need-loop-again Inv-loop μ-loop
-loop-again c = goes-on (c .before .before .before .before .loop .inv) (search needs) (c .before .no-other-ramp .ensures ∙ ap (noOtherRamp (c .before .before .before .before .before .before .args .count) (c .before .before .before .before .loop .k)) (c .before .before .row-at .ensures)) (c .if1 .left)
+loop-again c = goes-on (c .before .before .before .before .loop .inv) (search needs) (tested (c .before)) (c .if1 .left)
 
 returns-2 : tie.Need-returns-2 Inv-loop μ-loop
 returns-2 c = every-ends (c .before .loop .inv) (search needs)

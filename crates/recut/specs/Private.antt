@@ -1,0 +1,27 @@
+-- Cited by private contracts and proofs alone: no public promise rests on this file.
+-- What the functions of a re-cut ask of each other.
+use Prim.Native.Nat.{ℕ, _+_, _*_, _/_, _≤_, _<_}
+use mathlib.Core.Path.{_≡_}
+use mathlib.Core.List.{List}
+use lib.ListN.{length}
+use Rattle.layout.specs.Layout.{MOST, cells, stateLength}
+use Rattle.layout.specs.Corridor.{Corridor, cellsOf, rowOf, countOf}
+use Rattle.recut.specs.declared.Piece.{Piece}
+
+-- what the pieces of a cell before this one have got of its vehicles
+abbrev pub givenBefore : Corridor → Piece → ℕ
+givenBefore old piece = countOf old (piece .cell) * piece .before / rowOf old (piece .cell) .jam
+
+-- a piece of that jam count lies in its cell, which holds no more than its own
+pub record Cuttable (old : Corridor) (piece : Piece) (jam : ℕ) : Type 0 where
+  pub state-length : length (old .state) ≡ stateLength (cellsOf old)
+  pub inside : piece .cell < cellsOf old
+  pub some : 0 < rowOf old (piece .cell) .jam
+  pub held : countOf old (piece .cell) ≤ rowOf old (piece .cell) .jam
+  pub within : piece .before + jam ≤ rowOf old (piece .cell) .jam
+
+-- a count for each old cell, and as many cells as tables have
+pub record Countable (old pieces new : List ℕ) : Type 0 where
+  pub counted : length pieces ≡ cells old
+  pub old-most : cells old ≤ MOST
+  pub new-most : cells new ≤ MOST

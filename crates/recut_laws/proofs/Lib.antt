@@ -1,0 +1,3 @@
+pub mod Shares
+pub mod Along
+pub mod Kept
