@@ -18,6 +18,8 @@ use Rattle.refusals.specs.Refusals.{numberOf, placeOf}
 use Rattle.refusals.specs.Checks.{answer}
 use Rattle.whole.proofs.Tests.{both-hold}
 use Rattle.accept_ranges.proofs.Ranges.{Between}
+use Rattle.layout.specs.Corridor.{Corridor}
+use Rattle.period.specs.Sharing.{Sharing}
 use Rattle.period.specs.Period.{PeriodDone}
 use Rattle.period_run.specs.declared.Ran.{Ran}
 use Rattle.period_run.specs.Run.{RunDone}
@@ -74,14 +76,14 @@ fits-as e fits = rw e fits
 
 -- Periods, runs and re-cuts
 
-pub period-called : {table state demand sheet stateLeft sheetLeft : List ℕ} {a : Answer} {word : ℕ} → PeriodDone table state demand sheet a stateLeft sheetLeft → word ≡ wordOf a → PeriodCalled table state demand sheet word stateLeft sheetLeft
+pub period-called : {way : Sharing} {c : Corridor} {demand sheet stateLeft sheetLeft : List ℕ} {a : Answer} {word : ℕ} → PeriodDone way c demand sheet a stateLeft sheetLeft → word ≡ wordOf a → PeriodCalled way c demand sheet word stateLeft sheetLeft
 period-called done e =
     record {
       answered = e ∙ ap wordOf (done .answered);
       leaves = record { answered = refl; leavesState = done .leavesState; leavesSheet = done .leavesSheet };
     }
 
-pub recut-called : {old state pieces new list left : List ℕ} {a : Answer} {word : ℕ} → RecutDone old state pieces new list a left → word ≡ wordOf a → RecutCalled old state pieces new list word left
+pub recut-called : {old : Corridor} {pieces new list left : List ℕ} {a : Answer} {word : ℕ} → RecutDone old pieces new list a left → word ≡ wordOf a → RecutCalled old pieces new list word left
 recut-called done e =
     record { answered = e ∙ ap wordOf (done .answered); leaves = record { answered = refl; leaves = done .leaves } }
 
@@ -90,20 +92,20 @@ one-stored [] x e = absurd (omega (arith, e))
 one-stored (a ∷ []) x e = refl
 one-stored (a ∷ b ∷ rest) x e = absurd (omega (arith, e))
 
-module _ (table state demand sheet periods : List ℕ) where
-  pub periods-refused : (length periods ≡ 1 → ⊥) → {word : ℕ} → word ≡ wordOf (Refused Length) → RunCalled table state demand sheet periods word state sheet periods
+module _ (way : Sharing) (c : Corridor) (demand sheet periods : List ℕ) where
+  pub periods-refused : (length periods ≡ 1 → ⊥) → {word : ℕ} → word ≡ wordOf (Refused Length) → RunCalled way c demand sheet periods word (c .state) sheet periods
   periods-refused none e =
       let other = ne-eqb (length periods) 1 none in
       record { answered = rw other e; leavesState = rw other; leavesSheet = rw other; leavesPeriods = rw other }
 
-  pub run-called : length periods ≡ 1 → {ran : Ran} {stateLeft sheetLeft : List ℕ} {word : ℕ} → RunDone table state demand sheet ran stateLeft sheetLeft → word ≡ wordOf (ran .answer) → RunCalled table state demand sheet periods word stateLeft sheetLeft (set periods 0 (ran .periods))
+  pub run-called : length periods ≡ 1 → {ran : Ran} {stateLeft sheetLeft : List ℕ} {word : ℕ} → RunDone way c demand sheet ran stateLeft sheetLeft → word ≡ wordOf (ran .answer) → RunCalled way c demand sheet periods word stateLeft sheetLeft (set periods 0 (ran .periods))
   run-called one {ran} done e =
       let same = eq-eqb (length periods) 1 one in
       record {
         answered = rw same (e ∙ ap wordOf (done .answered));
         leavesState = rw same (done .leavesState);
         leavesSheet = rw same (done .leavesSheet);
-        leavesPeriods = rw same (one-stored periods (ran .periods) one ∙ ap (λ x. x ∷ []) (done .counted));
+        leavesPeriods = rw same (one-stored periods (ran .periods) one ∙ ap (λ x. x ∷ []) (done .periods));
       }
 
 -- Calibrations

@@ -9,8 +9,10 @@ use lib.ListN.{length}
 use Rattle.whole.specs.Search.{pick}
 use Rattle.refusals.specs.declared.Answer.{Answer}
 use Rattle.refusals.specs.Checks.{answer, whenAccepted}
+use Rattle.layout.specs.Corridor.{Corridor}
+use Rattle.period.specs.Sharing.{Sharing}
 use Rattle.period.specs.Period.{periodChecks, PeriodDone}
-use Rattle.period_run.specs.Run.{periodsRun, runAnswer, stateAfterPeriods, sheetAfterPeriods}
+use Rattle.period_run.specs.Run.{periodsRun, runAnswer, corridorAfterPeriods, sheetAfterPeriods}
 use Rattle.recut.specs.Recut.{recutChecks, RecutDone}
 use Rattle.calibrate_fit.specs.declared.Settings.{Settings}
 use Rattle.calibrate_rows.specs.declared.Diagram.{Diagram}
@@ -19,23 +21,23 @@ use Rattle.calibrate_rows.specs.RowNumbers.{rowNumbers}
 use Rattle.calibrate_fit.specs.Calibration.{calibrationChecks, fittedDiagram, fittedValues}
 use Rattle.figwimple.specs.Words.{wordOf, withLists}
 
-pub record PeriodCalled (table state demand sheet : List ℕ) (word : ℕ) (stateLeft sheetLeft : List ℕ) : Type 0 where
-  pub answered : word ≡ wordOf (answer (periodChecks table state demand sheet))
-  pub leaves : PeriodDone table state demand sheet (answer (periodChecks table state demand sheet)) stateLeft sheetLeft
+pub record PeriodCalled (way : Sharing) (c : Corridor) (demand sheet : List ℕ) (word : ℕ) (stateLeft sheetLeft : List ℕ) : Type 0 where
+  pub answered : word ≡ wordOf (answer (periodChecks c demand sheet))
+  pub leaves : PeriodDone way c demand sheet (answer (periodChecks c demand sheet)) stateLeft sheetLeft
 
 -- the list of the periods completed has length 1; where it has not, every list stays as it came
 abbrev pub periodsFit : List ℕ → Bool
 periodsFit periods = eqb (length periods) 1
 
-pub record RunCalled (table state demand sheet periods : List ℕ) (word : ℕ) (stateLeft sheetLeft periodsLeft : List ℕ) : Type 0 where
-  pub answered : word ≡ wordOf (withLists (periodsFit periods) (runAnswer table state demand sheet))
-  pub leavesState : stateLeft ≡ pick (periodsFit periods) (stateAfterPeriods table state demand (periodsRun table state demand sheet)) state
-  pub leavesSheet : sheetLeft ≡ pick (periodsFit periods) (sheetAfterPeriods table state demand sheet (periodsRun table state demand sheet)) sheet
-  pub leavesPeriods : periodsLeft ≡ pick (periodsFit periods) (periodsRun table state demand sheet ∷ []) periods
+pub record RunCalled (way : Sharing) (c : Corridor) (demand sheet periods : List ℕ) (word : ℕ) (stateLeft sheetLeft periodsLeft : List ℕ) : Type 0 where
+  pub answered : word ≡ wordOf (withLists (periodsFit periods) (runAnswer way c demand sheet))
+  pub leavesState : stateLeft ≡ pick (periodsFit periods) (corridorAfterPeriods way c demand (periodsRun way c demand sheet) .state) (c .state)
+  pub leavesSheet : sheetLeft ≡ pick (periodsFit periods) (sheetAfterPeriods way c demand sheet (periodsRun way c demand sheet)) sheet
+  pub leavesPeriods : periodsLeft ≡ pick (periodsFit periods) (periodsRun way c demand sheet ∷ []) periods
 
-pub record RecutCalled (old state pieces new list : List ℕ) (word : ℕ) (left : List ℕ) : Type 0 where
-  pub answered : word ≡ wordOf (answer (recutChecks old state pieces new list))
-  pub leaves : RecutDone old state pieces new list (answer (recutChecks old state pieces new list)) left
+pub record RecutCalled (old : Corridor) (pieces new list : List ℕ) (word : ℕ) (left : List ℕ) : Type 0 where
+  pub answered : word ≡ wordOf (answer (recutChecks old pieces new list))
+  pub leaves : RecutDone old pieces new list (answer (recutChecks old pieces new list)) left
 
 abbrev pub settingsOf : Float → ℕ → ℕ → Float → ℕ → ℕ → Settings
 settingsOf g lanes t l start end = record { g = g; lanes = lanes; period = t; cell = l; start = start; end = end }

@@ -4,6 +4,8 @@ ghost use mathlib.Core.Path.{_≡_};
 ghost use lib.ListN.{length};
 ghost use Rattle.refusals.specs.Checks.{answer};
 ghost use Rattle.accept_tables.specs.Tables.{tableChecks};
+ghost use Rattle.layout.specs.Corridor.{corridorOf};
+ghost use Rattle.period.specs.Sharing.{asymmetric};
 ghost use Rattle.accept_rows.specs.Acceptance.{stateChecks, rowChecks};
 ghost use Rattle.figwimple.specs.Words.{wordOf, Placed};
 ghost use Rattle.figwimple.specs.Calls.{PeriodCalled, RunCalled, RecutCalled, settingsOf, fiveOf, fourOf, resultsFit, CalibrateCalled};
@@ -40,7 +42,7 @@ pub extern "C" fn figwimple_accept_table(table: &[u32]) -> u64
 // Whether a state is accepted under a table: numbers 1 to 5.
 #[no_mangle]
 pub extern "C" fn figwimple_accept_state(table: &[u32], state: &[u32]) -> u64
-    ensures { λ r. ⌜ r ≡ wordOf (answer (stateChecks (now (table .entry)) (now (state .entry)))) ⌝ }
+    ensures { λ r. ⌜ r ≡ wordOf (answer (stateChecks (corridorOf (now (table .entry)) (now (state .entry))))) ⌝ }
 {
     word(accept_rows::accept_state(table, state))
 }
@@ -48,7 +50,7 @@ pub extern "C" fn figwimple_accept_state(table: &[u32], state: &[u32]) -> u64
 // Whether a demand row is accepted under a table and a state: numbers 1 to 7.
 #[no_mangle]
 pub extern "C" fn figwimple_accept_row(table: &[u32], state: &[u32], demand: &[u32]) -> u64
-    ensures { λ r. ⌜ r ≡ wordOf (answer (rowChecks (now (table .entry)) (now (state .entry)) (now (demand .entry)))) ⌝ }
+    ensures { λ r. ⌜ r ≡ wordOf (answer (rowChecks (corridorOf (now (table .entry)) (now (state .entry))) (now (demand .entry)))) ⌝ }
 {
     word(accept_rows::accept_row(table, state, demand))
 }
@@ -61,7 +63,7 @@ pub extern "C" fn figwimple_period(
     demand: &[u32],
     sheet: &mut [u32],
 ) -> u64
-    ensures { λ r. ⌜ PeriodCalled (now (table .entry)) (now (state .entry)) (now (demand .entry)) (now (sheet .entry)) r (now (state .exit)) (now (sheet .exit)) ⌝ }
+    ensures { λ r. ⌜ PeriodCalled asymmetric (corridorOf (now (table .entry)) (now (state .entry))) (now (demand .entry)) (now (sheet .entry)) r (now (state .exit)) (now (sheet .exit)) ⌝ }
 {
     word(period::period(table, state, demand, sheet))
 }
@@ -75,7 +77,7 @@ pub extern "C" fn figwimple_run(
     sheet: &mut [u32],
     periods: &mut [u32],
 ) -> u64
-    ensures { λ r. ⌜ RunCalled (now (table .entry)) (now (state .entry)) (now (demand .entry)) (now (sheet .entry)) (now (periods .entry)) r (now (state .exit)) (now (sheet .exit)) (now (periods .exit)) ⌝ }
+    ensures { λ r. ⌜ RunCalled asymmetric (corridorOf (now (table .entry)) (now (state .entry))) (now (demand .entry)) (now (sheet .entry)) (now (periods .entry)) r (now (state .exit)) (now (sheet .exit)) (now (periods .exit)) ⌝ }
 {
     if periods.len() != 1 {
         return word(Answer::Refused(Refusal::Length));
@@ -95,7 +97,7 @@ pub extern "C" fn figwimple_recut(
     new: &[u32],
     list: &mut [u32],
 ) -> u64
-    ensures { λ r. ⌜ RecutCalled (now (old .entry)) (now (state .entry)) (now (pieces .entry)) (now (new .entry)) (now (list .entry)) r (now (list .exit)) ⌝ }
+    ensures { λ r. ⌜ RecutCalled (corridorOf (now (old .entry)) (now (state .entry))) (now (pieces .entry)) (now (new .entry)) (now (list .entry)) r (now (list .exit)) ⌝ }
 {
     word(recut::recut(old, state, pieces, new, list))
 }

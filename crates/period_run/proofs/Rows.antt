@@ -1,5 +1,5 @@
 -- The rows of a run: the state after an accepted period is accepted, so table and state need no second check. Assumes nothing.
-use Prim.Native.Nat.{ℕ, _+_, _-_, _*_, _/_, _%_, _≤_, _<_}
+use Prim.Native.Nat.{ℕ, zero, suc, _+_, _-_, _*_, _/_, _%_, _≤_, _<_}
 use mathlib.Core.Path.{_≡_, refl, sym, ap, ap₂, _∙_}
 use mathlib.Core.Bool.{true, false, _&&_}
 use mathlib.Core.List.{List}
@@ -231,3 +231,9 @@ module _ (way : Sharing) (c : Corridor) (demand sheet : List ℕ) where
   pub can-run : runListsFit (cellsOf c) demand sheet ≡ true → Accepted ≡ answer (stateChecks c) → Runnable c demand sheet
   can-run lists e =
       let passed = accepted-passes _ _ (sym e) in record { lists = lists; fits = passed .0 0 (omega arith); accepted = passed .1 }
+
+-- no period changes the table
+pub table-stays : (way : Sharing) (c : Corridor) (demand : List ℕ) (k : ℕ) → corridorAfterPeriods way c demand k .table ≡ c .table
+unfolding corridorAfterPeriods
+table-stays way c demand zero = refl
+table-stays way c demand (suc k) = table-stays way c demand k

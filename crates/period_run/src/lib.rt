@@ -25,9 +25,7 @@ fn run_lists_fit(n: usize, demand: &[u32], sheet: &[u32]) -> bool
     ensures { λ r. ⌜ r ≡ runListsFit n (now (demand .entry)) (now (sheet .entry)) ⌝ }
 {
     let width = demand_length(n);
-    (demand.len() % width == 0)
-        & (demand.len() / width <= 4_096)
-        & (sheet.len() == sheet_length(n))
+    (demand.len() % width == 0) & (demand.len() / width <= 4_096) & (sheet.len() == sheet_length(n))
 }
 
 // The rows of a run whose table and state are accepted. They are not checked again: the state after an accepted period is accepted.

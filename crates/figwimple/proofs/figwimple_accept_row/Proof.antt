@@ -2,6 +2,7 @@
 use borrow.Author.Needs.{needs}
 use mathlib.Core.Path.{ap, _∙_}
 use Rattle.figwimple.specs.Words.{wordOf}
+use Rattle.layout.specs.Corridor.{corridorOf}
 use Rattle.figwimple.proofs.Places.{row-placed}
 use Rattle.figwimple.proofs.Called.{fits-as}
 use Rattle.figwimple.proofs.figwimple_accept_row.Statement.{statement}
@@ -10,7 +11,7 @@ use Rattle.figwimple.proofs.figwimple_accept_row.Tie as tie
 word-requires : tie.Need-word-requires
 word-requires c κs =
     let lists = c .before .before .before .before .args in
-    fits-as (c .accept-row .ensures) (row-placed (lists .table .now) (lists .state .now) (lists .demand .now))
+    fits-as (c .accept-row .ensures) (row-placed (corridorOf (lists .table .now) (lists .state .now)) (lists .demand .now))
 
 returns : tie.Need-returns
 returns c = c .word .ensures ∙ ap wordOf (c .before .accept-row .ensures)

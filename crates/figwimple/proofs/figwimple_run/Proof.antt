@@ -1,6 +1,8 @@
 -- `figwimple::figwimple_run` meets its contract. Assumes nothing.
 use borrow.Author.Needs.{needs}
 use native.Mathlib.Omega.{arith}
+use Rattle.layout.specs.Corridor.{corridorOf}
+use Rattle.period.specs.Sharing.{asymmetric}
 use Rattle.figwimple.proofs.Places.{run-placed, few-periods}
 use Rattle.figwimple.proofs.Called.{fits-as, periods-refused, run-called}
 use Rattle.figwimple.proofs.figwimple_run.Statement.{statement}
@@ -9,22 +11,22 @@ use Rattle.figwimple.proofs.figwimple_run.Tie as tie
 returns : tie.Need-returns
 returns c =
     let lists = c .before .before .before .before .before .before .before .args in
-    periods-refused (lists .table .now) (lists .state .now) (lists .demand .now) (lists .sheet .now) (lists .periods .now) (c .before .if1 .taken) (c .word .ensures)
+    periods-refused asymmetric (corridorOf (lists .table .now) (lists .state .now)) (lists .demand .now) (lists .sheet .now) (lists .periods .now) (c .before .if1 .taken) (c .word .ensures)
 
 cast-periods : tie.Need-cast-periods
 cast-periods c =
     let lists = c .before .before .before .before .before .before .before .before .before .before .before .before .before .before .args in
-    omega (arith, c .before .before .before .before .before .run .ensures .counted, few-periods (lists .table .now) (lists .state .now) (lists .demand .now) (lists .sheet .now))
+    omega (arith, c .before .before .before .before .before .run .ensures .periods, few-periods asymmetric (corridorOf (lists .table .now) (lists .state .now)) (lists .demand .now) (lists .sheet .now))
 
 word-requires-2 : tie.Need-word-requires-2
 word-requires-2 c κs =
     let lists = c .before .before .before .before .before .before .before .before .before .before .before .before .before .before .args in
-    fits-as (c .before .before .before .before .before .run .ensures .answered) (run-placed (lists .table .now) (lists .state .now) (lists .demand .now) (lists .sheet .now))
+    fits-as (c .before .before .before .before .before .run .ensures .answered) (run-placed asymmetric (corridorOf (lists .table .now) (lists .state .now)) (lists .demand .now) (lists .sheet .now))
 
 returns-2 : tie.Need-returns-2
 returns-2 c =
     let lists = c .before .before .before .before .before .before .before .before .before .before .before .before .before .before .before .args in
-    run-called (lists .table .now) (lists .state .now) (lists .demand .now) (lists .sheet .now) (lists .periods .now) (c .before .before .before .before .before .before .before .before .before .if1 .left) (c .before .before .before .before .before .before .run .ensures) (c .word2 .ensures)
+    run-called asymmetric (corridorOf (lists .table .now) (lists .state .now)) (lists .demand .now) (lists .sheet .now) (lists .periods .now) (c .before .before .before .before .before .before .before .before .before .if1 .left) (c .before .before .before .before .before .before .run .ensures) (c .word2 .ensures)
 
 pub figwimple-run-spec : {M : Type 1} → statement M
 figwimple-run-spec =
