@@ -32,7 +32,7 @@ loop-holds c =
 piece-cell-requires : tie.Need-piece-cell-requires Inv-loop μ-loop
 piece-cell-requires c κs =
     let at = c .before .before .loop .inv in
-    (work at (c .before .loop-test .taken) (c .row-at .ensures), at .given-is)
+    (work at (search needs) (c .row-at .ensures), at .given-is)
 
 put-cell-requires : tie.Need-put-cell-requires Inv-loop μ-loop
 put-cell-requires c κs =
@@ -42,20 +42,20 @@ put-cell-requires c κs =
 next-piece-requires : tie.Need-next-piece-requires Inv-loop μ-loop
 next-piece-requires c κs =
     let row = c .before .before .before .before .before in
-    next-asked (row .before .before .loop .inv) (row .before .loop-test .taken) (row .row-at .ensures)
+    next-asked (row .before .before .loop .inv) (search needs) (row .row-at .ensures)
 
 add-first-or-later : tie.Need-add-first-or-later Inv-loop μ-loop
 add-first-or-later c =
     let cell = c .before .before .before .before .before .before in
     let row = cell .before in
-    omega (arith, given-fits (row .before .before .loop .inv) (row .before .loop-test .taken) (row .row-at .ensures) (cell .piece-cell .ensures))
+    omega (arith, given-fits (row .before .before .loop .inv) (search needs) (row .row-at .ensures) (cell .piece-cell .ensures))
 
 loop-again : tie.Need-loop-again Inv-loop μ-loop
 loop-again c =
     let stored = c .before .before .before .before .before in
     let cell = stored .before .before in
     let row = cell .before in
-    goes-on (row .before .before .loop .inv) (row .before .loop-test .taken) (row .row-at .ensures) (cell .piece-cell .ensures)
+    goes-on (row .before .before .loop .inv) (search needs) (row .row-at .ensures) (cell .piece-cell .ensures)
     (stored .put-cell .ensures) (c .before .before .next-piece .ensures) (c .first-or-later .ensures)
 
 same-length : tie.Need-same-length Inv-loop μ-loop

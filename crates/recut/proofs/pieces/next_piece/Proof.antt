@@ -1,7 +1,9 @@
 -- `recut::pieces::next_piece` meets its contract. Assumes nothing.
+use Prim.Native.Nat.{_+_}
 use native.Mathlib.Omega.{arith}
 use borrow.Author.Tests.{lt-ltb, le-ltb}
 use borrow.Author.Needs.{needs}
+use Rattle.recut.specs.Pieces.{pieceCount}
 use Rattle.recut.proofs.pieces.next_piece.Statement.{statement}
 use Rattle.recut.proofs.pieces.next_piece.Tie as tie
 
@@ -9,10 +11,14 @@ cast-if1 : tie.Need-cast-if1
 cast-if1 c = omega (arith, c .shared-slice-known .given (c .before .before .args .piece .cell))
 
 returns : tie.Need-returns
-returns c = rw (lt-ltb _ _ (c .before .before .if1 .taken))
+returns c =
+    let a = c .before .before .before .before .before .args in
+    rw (lt-ltb (a .piece .number + 1) (pieceCount (a .pieces .now) (a .piece .cell)) (c .before .before .if1 .taken))
 
 returns-2 : tie.Need-returns-2
-returns-2 c = rw (le-ltb _ _ (c .if1 .left))
+returns-2 c =
+    let a = c .before .before .before .args in
+    rw (le-ltb (a .piece .number + 1) (pieceCount (a .pieces .now) (a .piece .cell)) (c .if1 .left))
 
 pub next-piece-spec : {M : Type 1} → statement M
 next-piece-spec =
