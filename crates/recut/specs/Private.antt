@@ -12,7 +12,7 @@ use Rattle.recut.specs.declared.Piece.{Piece}
 abbrev pub givenBefore : Corridor → Piece → ℕ
 givenBefore old piece = countOf old (piece .cell) * piece .before / rowOf old (piece .cell) .jam
 
--- a piece of that jam count lies in its cell, which holds no more than its own
+-- what the work on a piece of that jam count asks: it lies in its cell, which holds no more than its J
 pub record Cuttable (old : Corridor) (piece : Piece) (jam : ℕ) : Type 0 where
   pub state-length : length (old .state) ≡ stateLength (cellsOf old)
   pub inside : piece .cell < cellsOf old
@@ -20,7 +20,7 @@ pub record Cuttable (old : Corridor) (piece : Piece) (jam : ℕ) : Type 0 where
   pub held : countOf old (piece .cell) ≤ rowOf old (piece .cell) .jam
   pub within : piece .before + jam ≤ rowOf old (piece .cell) .jam
 
--- a count for each old cell, and as many cells as tables have
+-- a count for each old cell, and no more cells than a table may have
 pub record Countable (old pieces new : List ℕ) : Type 0 where
   pub counted : length pieces ≡ cells old
   pub old-most : cells old ≤ MOST
