@@ -1,7 +1,7 @@
 -- What passes at each node, as the code meets it: the node of a cell, the last cell's offer that passes whole, and what each cell sends by
 -- what passes downstream of it. Assumes nothing.
 use Prim.Native.Nat.{ℕ, zero, suc, _+_, _-_, _≤_, _<_, min}
-use mathlib.Core.Path.{_≡_, _∙_}
+use mathlib.Core.Path.{_≡_, ap, _∙_}
 use mathlib.Core.Bool.{Bool, true}
 use mathlib.Core.List.{List}
 use native.Mathlib.Omega.{arith}
@@ -9,12 +9,12 @@ use borrow.Author.Tests.{lt-ltb, le-ltb}
 use Rattle.layout.specs.declared.Flows.{Flows}
 use Rattle.layout.specs.Layout.{entryDemand, offDemandAt}
 use Rattle.layout.specs.Corridor.{Corridor, cellsOf, rowOf, entryQueueOf, countOf}
+use Rattle.period.specs.declared.Opening.{Opening}
 use Rattle.period.specs.declared.Passed.{Passed}
 use Rattle.period.specs.declared.Sent.{Sent}
-use Rattle.period.specs.Sharing.{Sharing}
+use Rattle.period.specs.Sharing.{Sharing, asymmetric}
 use Rattle.period.specs.Period.{capacityNow, sentAt, offerAt, rampOfferAt, nodeAt, flowAt, offFlowAt, modeAt, flowsAt}
-use Rattle.period.specs.Private.{sentOf, ownAt, Workable}
-use Rattle.period.proofs.Fair.{Fair}
+use Rattle.period.specs.Private.{openOf, passedBy, sentOf, ownAt, Workable}
 
 module _ (way : Sharing) (c : Corridor) (demand : List ℕ) where
   -- what the cell of index i sends where f passes downstream of it
@@ -55,15 +55,19 @@ module _ (way : Sharing) (c : Corridor) (demand : List ℕ) where
   pub entry-is : {n : ℕ} {passed : Passed} → Workable n c demand 0 → passed ≡ nodeAt way c demand 0 → passed .main ≡ flowAt way c demand 0
   entry-is known passed = rw (passed, flow-in-is way c demand 0 (omega (arith, known .all, known .inside)))
 
-  -- what passes there is no more than the cell upstream would send
-  pub passes-of-m : Fair way → (i : ℕ) {m a : ℕ} {passed : Passed} (capacity : ℕ) → a ≡ min m capacity → passed ≡ way (rowOf c i) (countOf c i) a (rampOfferAt c demand i) → passed .main ≤ m
-  passes-of-m fair i {a = a} capacity least passed =
-      rw passed (omega (arith, fair .mainline-of-offer (rowOf c i) (countOf c i) a (rampOfferAt c demand i)))
-
   -- what is stored of the cell downstream, and what the cell upstream sends
-  pub does : (i : ℕ) {own : Sent} {passed : Passed} → own ≡ ownAt way c demand i → passed ≡ nodeAt way c demand i → _≡_ {A = Flows} (record { f = own .f; s = own .s; r = passed .ramp; mode = own .mode }) (flowsAt way c demand i)
-  does i own passed = rw (own, passed)
+  pub does : (i : ℕ) {own : Sent} {r : ℕ} → own ≡ ownAt way c demand i → r ≡ nodeAt way c demand i .ramp → _≡_ {A = Flows} (record { f = own .f; s = own .s; r = r; mode = own .mode }) (flowsAt way c demand i)
+  does i own r = rw (own, r)
 
   pub upstream-is : {i h n : ℕ} {own : Sent} {passed : Passed} → i ≡ suc h → Workable n c demand i → passed ≡ nodeAt way c demand i → own ≡ sentOf (rowOf c h) (countOf c h) (offDemandAt n demand h) (capacityNow c h) (passed .main) (passed .clear) → own ≡ ownAt way c demand h
   upstream-is {h = h} below known passed own =
       own ∙ rw (passed, below, known .all) (own-up way c demand h (omega (arith, known .all, known .inside)))
+
+-- what passes of a cell's offer is no more than the cell would send
+pub passes-of-m : (m capacity : ℕ) {a : ℕ} (opening : Opening) {passed : Passed} → a ≡ min m capacity → passed ≡ passedBy a opening → passed .main ≤ m
+passes-of-m m capacity opening least passed = rw passed (omega arith)
+
+-- what a cell opens to its on-ramp is what the on-ramp gets, whatever the mainline offers
+pub opens-to-ramp : (c : Corridor) (demand : List ℕ) (i : ℕ) {opening : Opening} → opening ≡ openOf (rowOf c i) (countOf c i) (rampOfferAt c demand i) → opening .ramp ≡ nodeAt asymmetric c demand i .ramp
+unfolding nodeAt
+opens-to-ramp c demand i e = ap (λ o. o .ramp) e

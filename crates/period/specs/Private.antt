@@ -1,18 +1,29 @@
 -- Cited by private contracts and proofs alone: no public promise rests on this file.
 -- What the functions of a period ask of each other.
-use Prim.Native.Nat.{ℕ, suc, _+_, _≤_, _<_}
+use Prim.Native.Nat.{ℕ, suc, _+_, _-_, _≤_, _<_, min}
 use mathlib.Core.Path.{_≡_}
 use mathlib.Core.Bool.{Bool}
 use mathlib.Core.List.{List}
+use lib.Dec.{ltb}
 use lib.ListN.{length}
+use Rattle.whole.specs.Share.{share}
 use Rattle.layout.specs.declared.Row.{Row}
 use Rattle.layout.specs.Layout.{stateLength, entryQueue, countAt, queueAt, demandLength, entryDemand, onDemandAt}
 use Rattle.layout.specs.Sheet.{sheetLength, flowIn, offFlowIn, onFlowIn}
 use Rattle.layout.specs.Corridor.{Corridor, cellsOf, rowOf, countOf}
+use Rattle.period.specs.declared.Opening.{Opening}
+use Rattle.period.specs.declared.Passed.{Passed}
 use Rattle.period.specs.declared.Sent.{Sent}
-use Rattle.period.specs.Cell.{M, offFlow, modeOf}
+use Rattle.period.specs.Cell.{R, M, offFlow, modeOf}
 use Rattle.period.specs.Sharing.{Sharing}
 use Rattle.period.specs.Period.{flowAt, offFlowAt, modeAt}
+
+-- what a receiving cell opens at its node, and what passes of the mainline's offer a: the asymmetric way in two steps
+abbrev pub openOf : Row → ℕ → ℕ → Opening
+openOf r n e = record { main = R r n; ramp = min e (share (r .x) (r .jam - n)) }
+
+abbrev pub passedBy : ℕ → Opening → Passed
+passedBy a opening = record { main = min a (opening .main); ramp = opening .ramp; clear = ltb a (opening .main) }
 
 -- what a cell of capacity F sends where f passes at the node downstream of it
 unfoldable pub sentOf : Row → ℕ → ℕ → ℕ → ℕ → Bool → Sent

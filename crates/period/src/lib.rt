@@ -17,6 +17,12 @@ use layout::sheet::sheet_length;
 use refusals::Answer;
 use refusals::Refusal;
 
+// What a receiving cell opens at its node: to the mainline, and to its on-ramp.
+pub struct Opening {
+    pub main: u64,
+    pub ramp: u32,
+}
+
 // What passes at a node: on the mainline, from the on-ramp, and whether the room there leaves the mainline free.
 pub struct Passed {
     pub main: u32,

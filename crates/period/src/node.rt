@@ -1,9 +1,10 @@
-// What passes at one node. A way of sharing is one function here, from the receiving cell's row and count and from what the mainline and the
-// on-ramp offer.
+// What passes at one node. A way of sharing is one function here, from what the mainline offers and what the receiving cell opens.
 ghost use mathlib.Core.Path.{_≡_};
-ghost use Prim.Native.Nat.{_+_, _≤_, min};
+ghost use Prim.Native.Nat.{_+_, _-_, _≤_, min};
+ghost use Rattle.whole.specs.Share.{share};
 ghost use Rattle.period.specs.Cell.{R};
-ghost use Rattle.period.specs.Sharing.{asymmetric};
+ghost use Rattle.period.specs.Private.{openOf, passedBy};
+use crate::Opening;
 use crate::Passed;
 use layout::Row;
 use whole::least;
@@ -17,36 +18,39 @@ fn room(row: Row, n: u32) -> u64
     share(row.w, row.jam - n)
 }
 
-// What an on-ramp offers. Most cells have none, and with c = 0 nothing need be worked out.
-pub(crate) fn ramp_offer(limit: u32, q: u32, d: u32) -> u32
-    ensures { λ r. ⌜ r ≡ min (q + d) limit ⌝ }
+// What an on-ramp of the given limit gets: the least of its offer and its share of the room. Most cells have no on-ramp, and with a limit of 0
+// nothing need be worked out.
+fn ramp_flow(row: Row, n: u32, limit: u32, q: u32, d: u32) -> u32
+    requires { ⌜ n ≤ row .jam ⌝ }
+    ensures { λ r. ⌜ r ≡ min (min (q + d) limit) (share (row .x) (row .jam - n)) ⌝ }
 {
     if limit == 0 {
         return 0;
     }
-    least(q as u64 + d as u64, limit as u64) as u32
+    least(
+        least(q as u64 + d as u64, limit as u64),
+        share(row.x, row.jam - n),
+    ) as u32
 }
 
-// What an on-ramp gets of what it offers.
-fn ramp_share(row: Row, n: u32, e: u32) -> u32
+// What the receiving cell opens, whatever the mainline offers.
+pub(crate) fn opens(row: Row, n: u32, limit: u32, q: u32, d: u32) -> Opening
     requires { ⌜ n ≤ row .jam ⌝ }
-    ensures { λ r. ⌜ r ≡ asymmetric row n 0 e .ramp ⌝ }
+    ensures { λ r. ⌜ r ≡ openOf row n (min (q + d) limit) ⌝ }
 {
-    if e == 0 {
-        return 0;
+    Opening {
+        main: room(row, n),
+        ramp: ramp_flow(row, n, limit, q, d),
     }
-    least(e as u64, share(row.x, row.jam - n)) as u32
 }
 
 // Mainline and on-ramp each have a share of the room of their own.
-pub(crate) fn asymmetric(row: Row, n: u32, a: u32, e: u32) -> Passed
-    requires { ⌜ n ≤ row .jam ⌝ }
-    ensures { λ r. ⌜ r ≡ asymmetric row n a e ⌝ }
+pub(crate) fn asymmetric(a: u32, opening: Opening) -> Passed
+    ensures { λ r. ⌜ r ≡ passedBy a opening ⌝ }
 {
-    let room = room(row, n);
     Passed {
-        main: least(a as u64, room) as u32,
-        ramp: ramp_share(row, n, e),
-        clear: (a as u64) < room,
+        main: least(a as u64, opening.main) as u32,
+        ramp: opening.ramp,
+        clear: (a as u64) < opening.main,
     }
 }

@@ -9,13 +9,13 @@ ghost use Rattle.layout.specs.Corridor.{corridorOf, rowOf, countOf};
 ghost use Rattle.period.specs.Sharing.{asymmetric};
 ghost use Rattle.period.specs.Updated.{cellAfter, updated};
 ghost use Rattle.period.specs.Period.{RowAccepted, capacityNow, limitNow, sentAt, rampOfferAt, flowAt, flowsAt, sheetOf};
-ghost use Rattle.period.specs.Private.{sentOf, ownAt, Workable, CellUpdatable, Updatable};
-use crate::Passed;
+ghost use Rattle.period.specs.Private.{openOf, sentOf, ownAt, Workable, CellUpdatable, Updatable};
+use crate::Opening;
 use crate::Sent;
 use crate::cell::sent;
 use crate::cell::would_send;
 use crate::node::asymmetric;
-use crate::node::ramp_offer;
+use crate::node::opens;
 use layout::sheet::*;
 use layout::*;
 
@@ -47,17 +47,18 @@ fn sent_at(n: usize, table: &[u32], state: &[u32], demand: &[u32], i: usize) -> 
     )
 }
 
-// What passes at the node upstream of the cell of index i, where the mainline offers a.
-fn node_at(n: usize, table: &[u32], state: &[u32], demand: &[u32], i: usize, a: u32) -> Passed
+// What the cell of index i opens at the node upstream of it.
+fn open_at(n: usize, table: &[u32], state: &[u32], demand: &[u32], i: usize) -> Opening
     requires { ⌜ Workable n (corridorOf (now table) (now state)) (now demand) i ⌝ }
-    ensures { λ r. ⌜ r ≡ asymmetric (rowOf (corridorOf (now (table .entry)) (now (state .entry))) i) (countOf (corridorOf (now (table .entry)) (now (state .entry))) i) a (rampOfferAt (corridorOf (now (table .entry)) (now (state .entry))) (now (demand .entry)) i) ⌝ }
+    ensures { λ r. ⌜ r ≡ openOf (rowOf (corridorOf (now (table .entry)) (now (state .entry))) i) (countOf (corridorOf (now (table .entry)) (now (state .entry))) i) (rampOfferAt (corridorOf (now (table .entry)) (now (state .entry))) (now (demand .entry)) i) ⌝ }
 {
-    let e = ramp_offer(
+    opens(
+        row_at(table, i),
+        count_at(state, i),
         limit_now(table, state, i),
         queue_at(n, state, i),
         on_demand_at(demand, i),
-    );
-    asymmetric(row_at(table, i), count_at(state, i), a, e)
+    )
 }
 
 // What a cell offers onward.
@@ -104,7 +105,7 @@ fn last_own(n: usize, table: &[u32], state: &[u32], demand: &[u32]) -> Sent
 }
 
 // The node between the cells of index i - 1 and i, of which the latter sends its own: what that cell does is stored, and the answer is what
-// the cell upstream sends.
+// the cell upstream sends. The stores come first, since what is in them need then not be kept while the cell upstream is worked out.
 fn pass_node(
     n: usize,
     table: &[u32],
@@ -121,9 +122,7 @@ fn pass_node(
     ensures sends { λ r. ⌜ r ≡ ownAt asymmetric (corridorOf (now (table .entry)) (now (state .entry))) (now (demand .entry)) (i - 1) ⌝ }
     ensures stores { λ _. ⌜ now (sheet .exit) ≡ withFlows n (now (sheet .entry)) i (flowsAt asymmetric (corridorOf (now (table .entry)) (now (state .entry))) (now (demand .entry)) i) ⌝ }
 {
-    let m = sent_at(n, table, state, demand, i - 1);
-    let a = offer(m, capacity_now(table, state, i - 1));
-    let passed = node_at(n, table, state, demand, i, a);
+    let opening = open_at(n, table, state, demand, i);
     put_flows(
         sheet,
         n,
@@ -131,10 +130,13 @@ fn pass_node(
         Flows {
             f: own.f,
             s: own.s,
-            r: passed.ramp,
+            r: opening.ramp,
             mode: own.mode,
         },
     );
+    let m = sent_at(n, table, state, demand, i - 1);
+    let a = offer(m, capacity_now(table, state, i - 1));
+    let passed = asymmetric(a, opening);
     own_at(n, table, state, demand, i - 1, m, passed.main, passed.clear)
 }
 
@@ -146,7 +148,7 @@ fn pass_entry(n: usize, table: &[u32], state: &[u32], demand: &[u32], sheet: &mu
     ensures { λ _. ⌜ now (sheet .exit) ≡ withEntry (withFlows n (now (sheet .entry)) 0 (flowsAt asymmetric (corridorOf (now (table .entry)) (now (state .entry))) (now (demand .entry)) 0)) (flowAt asymmetric (corridorOf (now (table .entry)) (now (state .entry))) (now (demand .entry)) 0) ⌝ }
 {
     let a = entry_queue(state) + entry_demand(demand);
-    let passed = node_at(n, table, state, demand, 0, a);
+    let passed = asymmetric(a, open_at(n, table, state, demand, 0));
     put_flows(
         sheet,
         n,

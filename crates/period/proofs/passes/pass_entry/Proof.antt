@@ -7,18 +7,20 @@ use Rattle.layout.specs.Sheet.{withFlows}
 use Rattle.layout.specs.Corridor.{corridorOf}
 use Rattle.period.specs.Sharing.{asymmetric}
 use Rattle.period.specs.Period.{nodeAt}
+use Rattle.period.specs.Private.{passedBy}
 use Rattle.period.proofs.Nodes.{entry-node, entry-is, does}
 use borrow.Author.Needs.{needs}
 use Rattle.period.proofs.passes.pass_entry.Statement.{statement}
 use Rattle.period.proofs.passes.pass_entry.Tie as tie
 
-abbrev begin : tie.After-node-at → tie.Start
-begin c = c .before .before .before .before .before .before .before
+abbrev begin : tie.After-asymmetric → tie.Start
+begin c = c .before .before .before .before .before .before .before .before
 
 -- what passes at the node
-passed : (c : tie.After-node-at) → c .node-at .result ≡ nodeAt asymmetric (corridorOf (begin c .args .table .now) (begin c .args .state .now)) (begin c .args .demand .now) 0
+passed : (c : tie.After-asymmetric) → c .asymmetric .result ≡ nodeAt asymmetric (corridorOf (begin c .args .table .now) (begin c .args .state .now)) (begin c .args .demand .now) 0
 passed c =
-    entry-node _ _ _ (ap₂ (λ a b. a + b) (c .before .before .entry-queue .ensures) (c .before .entry-demand .ensures)) (c .node-at .ensures)
+    let entry = c .before .before in
+    entry-node _ _ _ (ap₂ (λ a b. a + b) (entry .before .entry-queue .ensures) (entry .entry-demand .ensures)) (c .asymmetric .ensures ∙ ap (passedBy _) (c .before .open-at .ensures))
 
 returns : tie.Need-returns
 returns c =
@@ -28,7 +30,7 @@ returns c =
     let start = begin node in
     entered .put-entry .ensures
     ∙ ap₂ withEntry
-    (stored .put-flows .ensures ∙ ap (withFlows (start .args .n) (start .args .sheet .now) 0) (does _ _ _ _ (start .pre .1 .1) (passed node)))
+    (stored .put-flows .ensures ∙ ap (withFlows (start .args .n) (start .args .sheet .now) 0) (does _ _ _ _ (start .pre .1 .1) (ap (λ p. p .ramp) (passed node))))
     (entry-is _ _ _ (start .pre .0) (passed node))
 
 pub pass-entry-spec : {M : Type 1} → statement M
@@ -38,6 +40,7 @@ pass-entry-spec =
     (λ c κs. search needs)
     (λ c κs. search needs)
     (λ c. search needs)
+    (λ c κs. search needs)
     (λ c κs. search needs)
     (λ c κs. search needs)
     (λ c κs. search needs)
