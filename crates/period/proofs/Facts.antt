@@ -1,10 +1,10 @@
 -- What an accepted period is known to start from. Assumes nothing.
 use mathlib.Core.Path.{_≡_}
 use mathlib.Core.List.{List, [], _∷_}
-use Prim.Native.Nat.{ℕ, _-_, _≤_, _<_}
+use Prim.Native.Nat.{ℕ, _-_, _<_}
 use lib.ListN.{length}
 use native.Mathlib.Omega.{arith}
-use Rattle.layout.specs.Layout.{stateLength, demandLength, offDemandAt}
+use Rattle.layout.specs.Layout.{stateLength, demandLength}
 use Rattle.accept_tables.specs.Tables.{tableNumbers}
 use Rattle.accept_rows.specs.Acceptance.{stateLengthsFit, stateInRange, stateNumbers, demandNumbers}
 use Rattle.refusals.proofs.Answers.{accepted-passes, accepted-both}
@@ -14,12 +14,8 @@ use Rattle.whole.proofs.Tests.{both-hold}
 use Rattle.accept_tables.proofs.Accepted.{TableFits, table-fits}
 use Rattle.accept_rows.proofs.Accepted.{StateFits, RowFits, state-fits, row-fits}
 use Rattle.period.specs.Period.{RowAccepted}
-use Rattle.layout.specs.declared.Row.{Row}
-use Rattle.period.specs.Cell.{M}
-use Rattle.period.specs.Period.{sentAt}
-use Rattle.period.specs.Private.{Workable}
-use Rattle.period.proofs.Fair.{sends-what-it-has}
-use Rattle.layout.specs.Corridor.{Corridor, cellsOf, rowOf, countOf}
+use Rattle.period.specs.Private.{Sendable, Workable}
+use Rattle.layout.specs.Corridor.{Corridor, cellsOf, rowOf}
 
 pub record Facts (c : Corridor) (demand : List ℕ) : Type 0 where
   pub state-length : length (c .state) ≡ stateLength (cellsOf c)
@@ -58,14 +54,18 @@ workable {c} {i = i} known all h =
       demand-length = rw all (known .demand-length);
       v = row .v .most;
       b = omega (arith, row .b .most, with-ramp-at-most (rowOf c i .off) 65_535);
+      capacity = row .capacity .most;
       count = known .s .counts i h;
     }
 
 pub last-workable : {n : ℕ} (c : Corridor) (demand : List ℕ) → RowAccepted c demand → n ≡ cellsOf c → Workable n c demand (n - 1)
 last-workable c demand e all = workable (facts c demand e) all (omega (arith, some-cell c demand e all))
 
--- what sending asks of a flow that is no more than M
-pub sent-asks : {c : Corridor} {demand : List ℕ} {n i count o m f : ℕ} {row : Row} → Workable n c demand i → row ≡ rowOf c i → count ≡ countOf c i → o ≡ offDemandAt n demand i → m ≡ sentAt c demand i → f ≤ m → (row .b < 65_536) × (f ≤ count) × (m ≡ M row count o)
-sent-asks {c} {demand} {i = i} known row count o m most =
-    rw (o, known .all, row, count)
-    (known .b, omega (arith, sends-what-it-has (rowOf c i) (countOf c i) (offDemandAt (cellsOf c) demand i) (known .v)), m)
+pub sendable : {c : Corridor} {demand : List ℕ} {n i : ℕ} → Workable n c demand i → Sendable c i
+sendable known =
+    record {
+      inside = omega (arith, known .all, known .inside);
+      state-length = rw (known .all) at (known .state-length);
+      v = known .v;
+      b = known .b;
+    }

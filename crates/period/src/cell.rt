@@ -1,9 +1,9 @@
 // One cell in one period, by the kind of its off-ramp and without a loop: numbers of 32 bits in and out, 64 between.
 ghost use mathlib.Core.Path.{_≡_};
 ghost use Prim.Native.Nat.{_≤_, _<_};
-ghost use Rattle.period.specs.Cell.{D, M, leaving, offFlow, modeOf};
-ghost use Rattle.period.specs.Private.{sentOf};
-use crate::Sent;
+ghost use lib.Dec.{ltb};
+ghost use Rattle.whole.specs.Search.{pick};
+ghost use Rattle.period.specs.Cell.{D, M, leaving, offFlow};
 use layout::Row;
 use whole::least;
 use whole::share;
@@ -53,29 +53,16 @@ fn leaving(row: Row, n: u32, o: u32, f: u32) -> u64
 }
 
 // s: never more than f leaves in the cell.
-fn off_flow(row: Row, n: u32, o: u32, f: u32) -> u64
+pub(crate) fn off_flow(row: Row, n: u32, o: u32, f: u32) -> u32
     requires { ⌜ (row .b < 65_536) × (f ≤ n) ⌝ }
     ensures { λ r. ⌜ r ≡ offFlow row n o f ⌝ }
 {
-    least(leaving(row, n, o, f), (n - f) as u64)
+    least(leaving(row, n, o, f), (n - f) as u64) as u32
 }
 
-// 0 where the cell would send less than its capacity and the node downstream is clear, else 1.
-fn mode(m: u32, capacity: u32, clear: bool) -> u32
-    ensures { λ r. ⌜ r ≡ modeOf m capacity clear ⌝ }
+// 0 where the cell would send less than its limit, else 1.
+pub(crate) fn mode(m: u64, limit: u64) -> u32
+    ensures { λ r. ⌜ r ≡ pick (ltb m limit) 0 1 ⌝ }
 {
-    if (m < capacity) & clear { 0 } else { 1 }
-}
-
-// What a cell sends that would send m, where f passes at the node downstream of it.
-pub(crate) fn sent(row: Row, n: u32, o: u32, m: u32, capacity: u32, f: u32, clear: bool) -> Sent
-    requires { ⌜ (row .b < 65_536) × (f ≤ n) × (m ≡ M row n o) ⌝ }
-    ensures { λ r. ⌜ r ≡ sentOf row n o capacity f clear ⌝ }
-{
-    let s = off_flow(row, n, o, f);
-    Sent {
-        f,
-        s: s as u32,
-        mode: mode(m, capacity, clear),
-    }
+    if m < limit { 0 } else { 1 }
 }

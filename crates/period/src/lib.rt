@@ -30,6 +30,12 @@ pub struct Passed {
     pub clear: bool,
 }
 
+// The flow out of a cell onward, and the cell's mode.
+pub struct Onward {
+    pub f: u32,
+    pub mode: u32,
+}
+
 // What a cell sends: f, s, and its mode.
 pub struct Sent {
     pub f: u32,

@@ -3,9 +3,10 @@ ghost use mathlib.Core.Path.{_≡_};
 ghost use Prim.Native.Nat.{_+_, _-_, _≤_, min};
 ghost use Rattle.whole.specs.Share.{share};
 ghost use Rattle.period.specs.Cell.{R};
-ghost use Rattle.period.specs.Private.{openOf, passedBy};
+ghost use Rattle.period.specs.Private.{openOf, passedBy, onwardOf};
+use crate::Onward;
 use crate::Opening;
-use crate::Passed;
+use crate::cell::mode;
 use layout::Row;
 use whole::least;
 use whole::share;
@@ -44,13 +45,21 @@ pub(crate) fn opens(row: Row, n: u32, limit: u32, q: u32, d: u32) -> Opening
     }
 }
 
-// Mainline and on-ramp each have a share of the room of their own.
-pub(crate) fn asymmetric(a: u32, opening: Opening) -> Passed
-    ensures { λ r. ⌜ r ≡ passedBy a opening ⌝ }
+// Mainline and on-ramp each have a share of the room of their own. What a cell that would send m passes of the least of m and F, and its mode:
+// the least of F and the room settles both.
+pub(crate) fn asymmetric(m: u32, capacity: u32, opening: Opening) -> Onward
+    ensures { λ r. ⌜ r ≡ onwardOf m capacity opening ⌝ }
 {
-    Passed {
-        main: least(a as u64, opening.main) as u32,
-        ramp: opening.ramp,
-        clear: (a as u64) < opening.main,
+    let limit = least(capacity as u64, opening.main);
+    Onward {
+        f: least(m as u64, limit) as u32,
+        mode: mode(m as u64, limit),
     }
+}
+
+// What passes of what the entry offers.
+pub(crate) fn from_entry(a: u32, opening: Opening) -> u32
+    ensures { λ r. ⌜ r ≡ passedBy a opening .main ⌝ }
+{
+    least(a as u64, opening.main) as u32
 }

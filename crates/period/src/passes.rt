@@ -1,20 +1,21 @@
 // The two passes of a period over the cells, each from the last cell up the road.
 ghost use mathlib.Core.Path.{_≡_};
-ghost use Prim.Native.Nat.{_+_, _-_, _≤_, _<_, min};
+ghost use Prim.Native.Nat.{_+_, _-_, _≤_, _<_};
 ghost use lib.ListN.{length};
 ghost use Rattle.layout.specs.Laid.{withEntry};
-ghost use Rattle.layout.specs.Layout.{cells, offDemandAt, entryQueue, entryDemand};
+ghost use Rattle.layout.specs.Layout.{cells, entryQueue, entryDemand};
 ghost use Rattle.layout.specs.Sheet.{sheetLength, withFlows};
 ghost use Rattle.layout.specs.Corridor.{corridorOf, rowOf, countOf};
 ghost use Rattle.period.specs.Sharing.{asymmetric};
 ghost use Rattle.period.specs.Updated.{cellAfter, updated};
-ghost use Rattle.period.specs.Period.{RowAccepted, capacityNow, limitNow, sentAt, rampOfferAt, flowAt, flowsAt, sheetOf};
-ghost use Rattle.period.specs.Private.{openOf, sentOf, ownAt, Workable, CellUpdatable, Updatable};
+ghost use Rattle.period.specs.Period.{RowAccepted, capacityNow, limitNow, rampOfferAt, flowAt, flowsAt, sheetOf};
+ghost use Rattle.period.specs.Private.{openOf, sendsOf, pastTheLast, ownAt, Sendable, Workable, CellUpdatable, Updatable};
 use crate::Opening;
 use crate::Sent;
-use crate::cell::sent;
+use crate::cell::off_flow;
 use crate::cell::would_send;
 use crate::node::asymmetric;
+use crate::node::from_entry;
 use crate::node::opens;
 use layout::sheet::*;
 use layout::*;
@@ -35,18 +36,6 @@ fn limit_now(table: &[u32], state: &[u32], i: usize) -> u32
     row_at(table, i).c
 }
 
-// M of the cell of index i.
-fn sent_at(n: usize, table: &[u32], state: &[u32], demand: &[u32], i: usize) -> u32
-    requires { ⌜ Workable n (corridorOf (now table) (now state)) (now demand) i ⌝ }
-    ensures { λ r. ⌜ r ≡ sentAt (corridorOf (now (table .entry)) (now (state .entry))) (now (demand .entry)) i ⌝ }
-{
-    would_send(
-        row_at(table, i),
-        count_at(state, i),
-        off_demand_at(n, demand, i),
-    )
-}
-
 // What the cell of index i opens at the node upstream of it.
 fn open_at(n: usize, table: &[u32], state: &[u32], demand: &[u32], i: usize) -> Opening
     requires { ⌜ Workable n (corridorOf (now table) (now state)) (now demand) i ⌝ }
@@ -61,47 +50,30 @@ fn open_at(n: usize, table: &[u32], state: &[u32], demand: &[u32], i: usize) -> 
     )
 }
 
-// What a cell offers onward.
-fn offer(m: u32, capacity: u32) -> u32
-    ensures { λ r. ⌜ r ≡ min m capacity ⌝ }
+// What the cell of index i sends, whose off-ramp demand is o, where the cell downstream of it opens so much.
+fn sends(table: &[u32], state: &[u32], i: usize, o: u32, opening: Opening) -> Sent
+    requires { ⌜ Sendable (corridorOf (now table) (now state)) i ⌝ }
+    ensures { λ r. ⌜ r ≡ sendsOf (corridorOf (now (table .entry)) (now (state .entry))) i o opening ⌝ }
 {
-    if m <= capacity { m } else { capacity }
+    let row = row_at(table, i);
+    let n = count_at(state, i);
+    let m = would_send(row, n, o);
+    let onward = asymmetric(m, capacity_now(table, state, i), opening);
+    Sent {
+        f: onward.f,
+        s: off_flow(row, n, o, onward.f),
+        mode: onward.mode,
+    }
 }
 
-// What the cell of index i sends, which would send m, where f passes at the node downstream of it.
-fn own_at(
-    n: usize,
-    table: &[u32],
-    state: &[u32],
-    demand: &[u32],
-    i: usize,
-    m: u32,
-    f: u32,
-    clear: bool,
-) -> Sent
-    requires { ⌜ Workable n (corridorOf (now table) (now state)) (now demand) i ⌝ }
-    requires { ⌜ (m ≡ sentAt (corridorOf (now table) (now state)) (now demand) i) × (f ≤ m) ⌝ }
-    ensures { λ r. ⌜ r ≡ sentOf (rowOf (corridorOf (now (table .entry)) (now (state .entry))) i) (countOf (corridorOf (now (table .entry)) (now (state .entry))) i) (offDemandAt n (now (demand .entry)) i) (capacityNow (corridorOf (now (table .entry)) (now (state .entry))) i) f clear ⌝ }
+// Past the last cell there is room for any flow.
+fn past_the_last() -> Opening
+    ensures { λ r. ⌜ r ≡ pastTheLast ⌝ }
 {
-    sent(
-        row_at(table, i),
-        count_at(state, i),
-        off_demand_at(n, demand, i),
-        m,
-        capacity_now(table, state, i),
-        f,
-        clear,
-    )
-}
-
-// The last cell: its offer passes whole.
-fn last_own(n: usize, table: &[u32], state: &[u32], demand: &[u32]) -> Sent
-    requires { ⌜ Workable n (corridorOf (now table) (now state)) (now demand) (n - 1) ⌝ }
-    ensures { λ r. ⌜ r ≡ ownAt asymmetric (corridorOf (now (table .entry)) (now (state .entry))) (now (demand .entry)) (n - 1) ⌝ }
-{
-    let m = sent_at(n, table, state, demand, n - 1);
-    let a = offer(m, capacity_now(table, state, n - 1));
-    own_at(n, table, state, demand, n - 1, m, a, true)
+    Opening {
+        main: 4_294_967_296,
+        ramp: 0,
+    }
 }
 
 // The node between the cells of index i - 1 and i, of which the latter sends its own: what that cell does is stored, and the answer is what
@@ -122,6 +94,7 @@ fn pass_node(
     ensures sends { λ r. ⌜ r ≡ ownAt asymmetric (corridorOf (now (table .entry)) (now (state .entry))) (now (demand .entry)) (i - 1) ⌝ }
     ensures stores { λ _. ⌜ now (sheet .exit) ≡ withFlows n (now (sheet .entry)) i (flowsAt asymmetric (corridorOf (now (table .entry)) (now (state .entry))) (now (demand .entry)) i) ⌝ }
 {
+    let o = off_demand_at(n, demand, i - 1);
     let opening = open_at(n, table, state, demand, i);
     put_flows(
         sheet,
@@ -134,10 +107,7 @@ fn pass_node(
             mode: own.mode,
         },
     );
-    let m = sent_at(n, table, state, demand, i - 1);
-    let a = offer(m, capacity_now(table, state, i - 1));
-    let passed = asymmetric(a, opening);
-    own_at(n, table, state, demand, i - 1, m, passed.main, passed.clear)
+    sends(table, state, i - 1, o, opening)
 }
 
 // The node between the entry and the first cell, which sends its own: what that cell does is stored, and the entry flow.
@@ -148,7 +118,7 @@ fn pass_entry(n: usize, table: &[u32], state: &[u32], demand: &[u32], sheet: &mu
     ensures { λ _. ⌜ now (sheet .exit) ≡ withEntry (withFlows n (now (sheet .entry)) 0 (flowsAt asymmetric (corridorOf (now (table .entry)) (now (state .entry))) (now (demand .entry)) 0)) (flowAt asymmetric (corridorOf (now (table .entry)) (now (state .entry))) (now (demand .entry)) 0) ⌝ }
 {
     let a = entry_queue(state) + entry_demand(demand);
-    let passed = asymmetric(a, open_at(n, table, state, demand, 0));
+    let opening = open_at(n, table, state, demand, 0);
     put_flows(
         sheet,
         n,
@@ -156,11 +126,11 @@ fn pass_entry(n: usize, table: &[u32], state: &[u32], demand: &[u32], sheet: &mu
         Flows {
             f: own.f,
             s: own.s,
-            r: passed.ramp,
+            r: opening.ramp,
             mode: own.mode,
         },
     );
-    put_entry(sheet, passed.main);
+    put_entry(sheet, from_entry(a, opening));
 }
 
 // Every flow, from the old state, into the sheet, node by node.
@@ -170,8 +140,9 @@ pub(crate) fn flows(table: &[u32], state: &[u32], demand: &[u32], sheet: &mut [u
     ensures { λ _. ⌜ now (sheet .exit) ≡ sheetOf asymmetric (corridorOf (now (table .entry)) (now (state .entry))) (now (demand .entry)) ⌝ }
 {
     let n = cells(table);
-    let mut own = last_own(n, table, state, demand);
     let mut i = n - 1;
+    let o = off_demand_at(n, demand, i);
+    let mut own = sends(table, state, i, o, past_the_last());
     while 0 < i {
         own = pass_node(n, table, state, demand, sheet, i, own);
         i -= 1;

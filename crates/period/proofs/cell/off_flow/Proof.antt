@@ -1,10 +1,14 @@
 -- `period::cell::off_flow` meets its contract. Assumes nothing.
 use Prim.Native.Nat.{_-_, min}
 use mathlib.Core.Path.{_∙_, ap}
+use native.Mathlib.Omega.{arith}
 use Rattle.period.proofs.Fair.{clipped}
 use borrow.Author.Needs.{needs}
 use Rattle.period.proofs.cell.off_flow.Statement.{statement}
 use Rattle.period.proofs.cell.off_flow.Tie as tie
+
+cast-result : tie.Need-cast-result
+cast-result c = omega (arith, c .least .ensures)
 
 returns : tie.Need-returns
 returns c =
@@ -19,4 +23,5 @@ off-flow-spec =
     (λ c. search needs)
     (λ c. search needs)
     (λ c κs. search needs)
+    cast-result
     returns)

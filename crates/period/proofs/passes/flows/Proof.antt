@@ -3,33 +3,45 @@ use native.Mathlib.Omega.{arith}
 use borrow.Author.Count.{falls-down}
 use Rattle.layout.specs.Corridor.{corridorOf}
 use Rattle.period.specs.Sharing.{asymmetric}
-use Rattle.period.proofs.Facts.{some-cell, last-workable}
+use Rattle.period.proofs.Facts.{some-cell, last-workable, sendable}
+use Rattle.period.proofs.Nodes.{last-is}
+use Prim.Native.Nat.{suc, _-_}
+use mathlib.Core.Path.{_≡_, ap, _∙_}
+use Rattle.period.specs.Private.{Workable, sendsOf}
 use Rattle.period.proofs.Filling.{FlowsFrom, begins, goes-on, ends, at-node, above-node, at-entry}
 use borrow.Author.Needs.{needs}
 use Rattle.period.proofs.passes.flows.Statement.{statement}
 use Rattle.period.proofs.passes.flows.Tie as tie
 
 abbrev Inv-loop : tie.InvT-loop
-Inv-loop table state demand sheet₀ n own₀ i₀ sheet own i = FlowsFrom asymmetric (corridorOf table state) demand n sheet own i
+Inv-loop table state demand sheet₀ n i₀ o own₀ sheet i own = FlowsFrom asymmetric (corridorOf table state) demand n sheet own i
 
 abbrev μ-loop : tie.MeasureT-loop
-μ-loop table state demand sheet₀ n own₀ i₀ sheet own i = i
-
-last-own-requires : tie.Need-last-own-requires Inv-loop μ-loop
-last-own-requires c κs =
-    let start = c .before .before .before .before .before in
-    last-workable _ _ (start .pre .0) (c .cells .ensures)
+μ-loop table state demand sheet₀ n i₀ o own₀ sheet i own = i
 
 sub-i : tie.Need-sub-i Inv-loop μ-loop
 sub-i c =
-    let start = c .before .before .before .before .before .before in
+    let start = c .before .before .before .before .before in
     let lists = start .args in
-    some-cell (corridorOf (lists .table .now) (lists .state .now)) (lists .demand .now) (start .pre .0) (c .before .cells .ensures)
+    some-cell (corridorOf (lists .table .now) (lists .state .now)) (lists .demand .now) (start .pre .0) (c .cells .ensures)
+
+-- what the last cell asks
+at-last : (c : tie.After-cells Inv-loop μ-loop) → let lists = c .before .before .before .before .before .args in Workable (c .cells .result) (corridorOf (lists .table .now) (lists .state .now)) (lists .demand .now) (c .cells .result - 1)
+at-last c = last-workable _ _ (c .before .before .before .before .before .pre .0) (c .cells .ensures)
+
+off-demand-at-requires : tie.Need-off-demand-at-requires Inv-loop μ-loop
+off-demand-at-requires c κs = omega (arith, at-last c .inside, at-last c .demand-length)
+
+sends-requires : tie.Need-sends-requires Inv-loop μ-loop
+sends-requires c κs = sendable (at-last (c .before .before))
 
 loop-holds : tie.Need-loop-holds Inv-loop μ-loop
 loop-holds c =
-    let start = c .before .before .before .before .before .before in
-    begins _ _ _ (start .pre .0) (c .before .cells .ensures) (start .pre .1) (c .last-own .ensures)
+    let told = c .before .before .before in
+    let start = told .before .before .before .before .before in
+    let last : suc (told .cells .result - 1) ≡ told .cells .result = omega (arith, at-last told .inside) in
+    let own = last-is _ _ (at-last told) last (c .before .before .off-demand-at .ensures) (c .sends .ensures ∙ ap (sendsOf _ _ _) (c .before .past-the-last .ensures)) in
+    begins _ _ _ (start .pre .0) (told .cells .ensures) (start .pre .1) own
 
 pass-node-requires : tie.Need-pass-node-requires Inv-loop μ-loop
 pass-node-requires c κs =
@@ -63,8 +75,10 @@ flows-spec =
     Inv-loop
     μ-loop
     (λ c κs. search needs)
-    last-own-requires
     sub-i
+    off-demand-at-requires
+    (λ c κs. search needs)
+    sends-requires
     loop-holds
     pass-node-requires
     (λ c. search needs)
