@@ -2,13 +2,17 @@
 use mathlib.Core.Path.{_≡_, refl}
 use mathlib.Core.Bool.{true}
 use Rattle.refusals.specs.Checks.{orLater}
+use Rattle.layout.specs.Layout.{stateOf}
+use Rattle.layout.specs.Sheet.{sheetFrom}
 use Rattle.accept_ranges.specs.Ranges.{rowInRange}
 use Rattle.period.specs.Cell.{M, leaving, offFlow}
-use Rattle.period.specs.Period.{flowAt, offFlowAt, onFlowAt, countAfter, entryQueueAfter, queueAfter, freeAt, sheetOf, stateAfter}
+use Rattle.period.specs.Sharing.{asymmetric}
+use Rattle.period.specs.Updated.{updated}
+use Rattle.period.specs.Period.{nodeAt, flowAt, offFlowAt, modeAt, sheetOf, stateAfter}
 use Rattle.recut.specs.Pieces.{jamBefore, piecesFit, pieceAt}
-use Rattle.recut.specs.Recut.{newCount, newQueue, newState}
-use Rattle.figures.specs.Figures.{same, plain, thirds, holds, allHold, road, offRamp, starred}
+use Rattle.recut.specs.Recut.{pieceCell}
+use Rattle.figures.specs.Figures.{same, plain, thirds, ofTen, holds, allHold, road, offRamp, starred}
 
-pub every-starred-figure-holds : allHold starred ≡ true
-unfolding jamBefore piecesFit pieceAt newCount newQueue newState plain thirds orLater rowInRange M leaving offFlow flowAt offFlowAt onFlowAt countAfter entryQueueAfter queueAfter freeAt sheetOf stateAfter same holds allHold road offRamp starred
+pub every-starred-figure-holds : allHold asymmetric starred ≡ true
+unfolding jamBefore piecesFit pieceAt pieceCell plain thirds ofTen orLater rowInRange M leaving offFlow nodeAt flowAt offFlowAt modeAt sheetFrom sheetOf stateOf updated stateAfter same holds allHold road offRamp starred
 every-starred-figure-holds = refl

@@ -3,20 +3,21 @@ use Prim.Native.Nat.{ℕ}
 use mathlib.Core.Bool.{Bool, true, false, _&&_}
 use mathlib.Core.List.{List, [], _∷_, _++_}
 use lib.Dec.{eqb}
-use Rattle.accept_rows.specs.Vehicles.{vehicles}
 use Rattle.refusals.specs.Checks.{answer}
+use Rattle.layout.specs.Corridor.{Corridor, corridorOf}
+use Rattle.accept_rows.specs.Vehicles.{vehicles}
 use Rattle.accept_rows.specs.Acceptance.{rowChecks}
-use Rattle.period.specs.Sharing.{asymmetric}
-use Rattle.period.specs.Period.{sheetOf, stateAfter}
+use Rattle.period.specs.Sharing.{Sharing}
+use Rattle.period.specs.Period.{sheetOf, stateAfter, corridorAfter}
 use Rattle.ledger.specs.Account.{demanded, leftRoad}
 use Rattle.period_run.specs.Run.{isAccepted}
 use Rattle.recut.specs.Recut.{newState, recutChecks}
 
 pub data Figure : Type 0 where
-  -- a period of a table, a state and a demand row, with the sheet and the state after it
-  period : List ℕ → List ℕ → List ℕ → List ℕ → List ℕ → Figure
+  -- a period of a corridor and a demand row, with the sheet and the state after it
+  period : Corridor → List ℕ → List ℕ → List ℕ → Figure
   -- the vehicles before a period, the demand, what left the road, and the vehicles after it
-  balance : List ℕ → List ℕ → List ℕ → ℕ → ℕ → ℕ → ℕ → Figure
+  balance : Corridor → List ℕ → ℕ → ℕ → ℕ → ℕ → Figure
   -- a cell of jam count 10 that holds n, cut into pieces of 3, 3 and 4, with their vehicles
   pieces : ℕ → List ℕ → Figure
 
@@ -33,22 +34,26 @@ plain J = 32768 ∷ 16384 ∷ 2000 ∷ J ∷ 0 ∷ 0 ∷ 0 ∷ 0 ∷ 0 ∷ []
 unfoldable pub thirds : List ℕ
 thirds = plain 3 ++ plain 3 ++ plain 4
 
--- the period or the re-cut is accepted, and gives those numbers
-unfoldable pub holds : Figure → Bool
-holds (period table state demand sheet after) =
-    isAccepted (answer (rowChecks table state demand)) && same (sheetOf asymmetric table state demand) sheet && same (stateAfter asymmetric table state demand) after
-holds (balance table state demand before brought left after) =
-    eqb (vehicles table state) before
-    && eqb (demanded table demand) brought
-    && eqb (leftRoad asymmetric table state demand) left
-    && eqb (vehicles table (stateAfter asymmetric table state demand)) after
-holds (pieces n shares) =
-    isAccepted (answer (recutChecks (plain 10) (0 ∷ n ∷ 0 ∷ []) (3 ∷ []) thirds (0 ∷ 0 ∷ 0 ∷ 0 ∷ 0 ∷ 0 ∷ 0 ∷ [])))
-    && same (newState (plain 10) (0 ∷ n ∷ 0 ∷ []) (3 ∷ []) thirds) (0 ∷ shares ++ (0 ∷ 0 ∷ 0 ∷ []))
+-- one cell of jam count 10 that holds n
+unfoldable pub ofTen : ℕ → Corridor
+ofTen n = corridorOf (plain 10) (0 ∷ n ∷ 0 ∷ [])
 
-unfoldable pub allHold : List Figure → Bool
-allHold [] = true
-allHold (figure ∷ figures) = holds figure && allHold figures
+-- the period or the re-cut is accepted, and gives those numbers
+unfoldable pub holds : Sharing → Figure → Bool
+holds way (period c demand sheet after) =
+    isAccepted (answer (rowChecks c demand)) && same (sheetOf way c demand) sheet && same (stateAfter way c demand) after
+holds way (balance c demand before brought left after) =
+    eqb (vehicles c) before
+    && eqb (demanded c demand) brought
+    && eqb (leftRoad way c demand) left
+    && eqb (vehicles (corridorAfter way c demand)) after
+holds way (pieces n shares) =
+    isAccepted (answer (recutChecks (ofTen n) (3 ∷ []) thirds (0 ∷ 0 ∷ 0 ∷ 0 ∷ 0 ∷ 0 ∷ 0 ∷ [])))
+    && same (newState (ofTen n) (3 ∷ []) thirds) (0 ∷ shares ++ (0 ∷ 0 ∷ 0 ∷ []))
+
+unfoldable pub allHold : Sharing → List Figure → Bool
+allHold way [] = true
+allHold way (figure ∷ figures) = holds way figure && allHold way figures
 
 -- a row of the printed example
 unfoldable pub road : List ℕ
@@ -61,19 +66,19 @@ offRamp F b = 32768 ∷ 16384 ∷ F ∷ 10000 ∷ 0 ∷ 0 ∷ 0 ∷ 7 ∷ b ∷ 
 unfoldable pub starred : List Figure
 starred =
     -- the printed period: entry flow 500, f 1,500 and 2,000, both congested
-    period (road ++ road) (500 ∷ 8000 ∷ 4000 ∷ 0 ∷ 0 ∷ []) (300 ∷ 0 ∷ 0 ∷ 0 ∷ 0 ∷ []) (500 ∷ 1500 ∷ 2000 ∷ 0 ∷ 0 ∷ 0 ∷ 0 ∷ 1 ∷ 1 ∷ []) (300 ∷ 7000 ∷ 3500 ∷ 0 ∷ 0 ∷ [])
+    period (corridorOf (road ++ road) (500 ∷ 8000 ∷ 4000 ∷ 0 ∷ 0 ∷ [])) (300 ∷ 0 ∷ 0 ∷ 0 ∷ 0 ∷ []) (500 ∷ 1500 ∷ 2000 ∷ 0 ∷ 0 ∷ 0 ∷ 0 ∷ 1 ∷ 1 ∷ []) (300 ∷ 7000 ∷ 3500 ∷ 0 ∷ 0 ∷ [])
     -- 12,500 + 300 − 2,000 = 10,800
-    ∷ balance (road ++ road) (500 ∷ 8000 ∷ 4000 ∷ 0 ∷ 0 ∷ []) (300 ∷ 0 ∷ 0 ∷ 0 ∷ 0 ∷ []) 12500 300 2000 10800
+    ∷ balance (corridorOf (road ++ road) (500 ∷ 8000 ∷ 4000 ∷ 0 ∷ 0 ∷ [])) (300 ∷ 0 ∷ 0 ∷ 0 ∷ 0 ∷ []) 12500 300 2000 10800
     -- n 1,000, b 16,384, F 1,000,000: f 375, s 125, n 500, free
-    ∷ period (offRamp 1000000 16384) (0 ∷ 1000 ∷ 0 ∷ []) (0 ∷ 0 ∷ 0 ∷ []) (0 ∷ 375 ∷ 125 ∷ 0 ∷ 0 ∷ []) (0 ∷ 500 ∷ 0 ∷ [])
+    ∷ period (corridorOf (offRamp 1000000 16384) (0 ∷ 1000 ∷ 0 ∷ [])) (0 ∷ 0 ∷ 0 ∷ []) (0 ∷ 375 ∷ 125 ∷ 0 ∷ 0 ∷ []) (0 ∷ 500 ∷ 0 ∷ [])
     -- with F 100: f 100, s 33, n 867, congested
-    ∷ period (offRamp 100 16384) (0 ∷ 1000 ∷ 0 ∷ []) (0 ∷ 0 ∷ 0 ∷ []) (0 ∷ 100 ∷ 33 ∷ 0 ∷ 1 ∷ []) (0 ∷ 867 ∷ 0 ∷ [])
+    ∷ period (corridorOf (offRamp 100 16384) (0 ∷ 1000 ∷ 0 ∷ [])) (0 ∷ 0 ∷ 0 ∷ []) (0 ∷ 100 ∷ 33 ∷ 0 ∷ 1 ∷ []) (0 ∷ 867 ∷ 0 ∷ [])
     -- given o 700: s 500, f 0, n 500, free
-    ∷ period (offRamp 1000000 0) (0 ∷ 1000 ∷ 0 ∷ []) (0 ∷ 0 ∷ 700 ∷ []) (0 ∷ 0 ∷ 500 ∷ 0 ∷ 0 ∷ []) (0 ∷ 500 ∷ 0 ∷ [])
+    ∷ period (corridorOf (offRamp 1000000 0) (0 ∷ 1000 ∷ 0 ∷ [])) (0 ∷ 0 ∷ 700 ∷ []) (0 ∷ 0 ∷ 500 ∷ 0 ∷ 0 ∷ []) (0 ∷ 500 ∷ 0 ∷ [])
     -- a cell filled to the brim: entry flow 750, r 250, n 10,000 exactly, Q 4,250, q 1,750
-    ∷ period (1 ∷ 49152 ∷ 1 ∷ 10000 ∷ 5 ∷ 16384 ∷ 1000000 ∷ 0 ∷ 0 ∷ []) (0 ∷ 9000 ∷ 2000 ∷ []) (5000 ∷ 0 ∷ 0 ∷ []) (750 ∷ 0 ∷ 0 ∷ 250 ∷ 0 ∷ []) (4250 ∷ 10000 ∷ 1750 ∷ [])
+    ∷ period (corridorOf (1 ∷ 49152 ∷ 1 ∷ 10000 ∷ 5 ∷ 16384 ∷ 1000000 ∷ 0 ∷ 0 ∷ []) (0 ∷ 9000 ∷ 2000 ∷ [])) (5000 ∷ 0 ∷ 0 ∷ []) (750 ∷ 0 ∷ 0 ∷ 250 ∷ 0 ∷ []) (4250 ∷ 10000 ∷ 1750 ∷ [])
     -- v 65,535, n 1: D is 0, so nothing flows
-    ∷ period (65535 ∷ 16384 ∷ 1000 ∷ 10000 ∷ 0 ∷ 0 ∷ 0 ∷ 0 ∷ 0 ∷ []) (0 ∷ 1 ∷ 0 ∷ []) (0 ∷ 0 ∷ 0 ∷ []) (0 ∷ 0 ∷ 0 ∷ 0 ∷ 0 ∷ []) (0 ∷ 1 ∷ 0 ∷ [])
+    ∷ period (corridorOf (65535 ∷ 16384 ∷ 1000 ∷ 10000 ∷ 0 ∷ 0 ∷ 0 ∷ 0 ∷ 0 ∷ []) (0 ∷ 1 ∷ 0 ∷ [])) (0 ∷ 0 ∷ 0 ∷ []) (0 ∷ 0 ∷ 0 ∷ 0 ∷ 0 ∷ []) (0 ∷ 1 ∷ 0 ∷ [])
     -- pieces J 3, 3, 4 of 10
     ∷ pieces 7 (2 ∷ 2 ∷ 3 ∷ [])
     ∷ pieces 1 (0 ∷ 0 ∷ 1 ∷ [])

@@ -5,14 +5,14 @@ use mathlib.Core.List.{List}
 use native.Mathlib.Omega.{arith}
 use Rattle.whole.specs.Sums.{sum, atPosition}
 use Rattle.whole.proofs.Sums.{sum-of-sums, sum-of-equal-terms, balance}
-use Rattle.layout.specs.Layout.{cells, countAt, queueAt, onDemandAt}
+use Rattle.layout.specs.Layout.{onDemandAt}
+use Rattle.layout.specs.Corridor.{Corridor, cellsOf, countOf, queueOf}
 use Rattle.accept_rows.specs.Vehicles.{vehicles}
 use Rattle.accept_tables.proofs.Accepted.{TableFits}
 use Rattle.accept_rows.proofs.Accepted.{StateFits, RowFits}
 use Rattle.period.specs.Sharing.{Sharing}
-use Rattle.period.specs.Period.{flowAt, offFlowAt, onFlowAt, countAfter, queueAfter, stateAfter}
+use Rattle.period.specs.Period.{flowAt, offFlowAt, onFlowAt, corridorAfter}
 use Rattle.period.proofs.Fair.{Fair}
-use Rattle.period.proofs.Reading.{after-entry, after-count, after-queue}
 use Rattle.period.proofs.Laws.{cell-balance, entry-balance, queue-balance}
 use Rattle.ledger.specs.Account.{demanded, leftRoad}
 
@@ -21,30 +21,22 @@ at-each : (f : ℕ → ℕ) (p : ℕ) → atPosition (f 0) (λ i. f (suc i)) p �
 at-each f zero = refl
 at-each f (suc p) = refl
 
-module _ (way : Sharing) (fair : Fair way) (table state demand : List ℕ) (t : TableFits table) (s : StateFits table state) (d : RowFits table state demand) where
-  abbrev after : List ℕ
-  after = stateAfter way table state demand
+module _ (way : Sharing) (fair : Fair way) (c : Corridor) (demand : List ℕ) (t : TableFits (c .table)) (s : StateFits c) (d : RowFits c demand) where
+  abbrev after : Corridor
+  after = corridorAfter way c demand
 
-  counts : sum (cells table) (countAt after) ≡ sum (cells table) (countAfter way table state demand)
-  counts = sum-of-equal-terms (cells table) _ _ (after-count way table state demand)
-
-  queues : sum (cells table) (queueAt (cells table) after) ≡ sum (cells table) (queueAfter way table state demand)
-  queues = sum-of-equal-terms (cells table) _ _ (after-queue way table state demand)
-
-  counts-balance : sum (cells table) (countAfter way table state demand) + sum (cells table) (offFlowAt way table state demand) + flowAt way table state demand (cells table) ≡ sum (cells table) (countAt state) + sum (cells table) (onFlowAt way table state demand) + flowAt way table state demand 0
+  counts-balance : sum (cellsOf c) (countOf after) + sum (cellsOf c) (offFlowAt way c demand) + flowAt way c demand (cellsOf c) ≡ sum (cellsOf c) (countOf c) + sum (cellsOf c) (onFlowAt way c demand) + flowAt way c demand 0
   counts-balance =
-      rw (at-each (flowAt way table state demand) (cells table)) at
-      (balance (cells table) (flowAt way table state demand 0) (countAt state) (countAfter way table state demand) (onFlowAt way table state demand) (offFlowAt way table state demand) (λ i. flowAt way table state demand (suc i))
-      λ i h. cell-balance way fair table state demand t s d i h ∙ ap (λ f. countAt state i + f + onFlowAt way table state demand i) (sym (at-each (flowAt way table state demand) i)))
+      rw (at-each (flowAt way c demand) (cellsOf c)) at
+      (balance (cellsOf c) (flowAt way c demand 0) (countOf c) (countOf after) (onFlowAt way c demand) (offFlowAt way c demand) (λ i. flowAt way c demand (suc i))
+      λ i h. cell-balance way fair c demand t s d i h ∙ ap (λ f. countOf c i + f + onFlowAt way c demand i) (sym (at-each (flowAt way c demand) i)))
 
-  queues-balance : sum (cells table) (queueAfter way table state demand) + sum (cells table) (onFlowAt way table state demand) ≡ sum (cells table) (queueAt (cells table) state) + sum (cells table) (onDemandAt demand)
+  queues-balance : sum (cellsOf c) (queueOf after) + sum (cellsOf c) (onFlowAt way c demand) ≡ sum (cellsOf c) (queueOf c) + sum (cellsOf c) (onDemandAt demand)
   queues-balance =
-      sym (sum-of-sums (cells table) (queueAfter way table state demand) (onFlowAt way table state demand))
-      ∙ sum-of-equal-terms (cells table) _ _ (λ i h. queue-balance way fair table state demand t s d i)
-      ∙ sum-of-sums (cells table) (queueAt (cells table) state) (onDemandAt demand)
+      sym (sum-of-sums (cellsOf c) (queueOf after) (onFlowAt way c demand))
+      ∙ sum-of-equal-terms (cellsOf c) _ _ (queue-balance way fair c demand t s d)
+      ∙ sum-of-sums (cellsOf c) (queueOf c) (onDemandAt demand)
 
   -- vehicles after and what left the road are the vehicles before and what was demanded
-  pub vehicles-balance : vehicles table (stateAfter way table state demand) + leftRoad way table state demand ≡ vehicles table state + demanded table demand
-  vehicles-balance =
-      omega
-      (arith, after-entry way table state demand, entry-balance way fair table state demand t s d, counts, counts-balance, queues, queues-balance)
+  pub vehicles-balance : vehicles (corridorAfter way c demand) + leftRoad way c demand ≡ vehicles c + demanded c demand
+  vehicles-balance = omega (arith, entry-balance way fair c demand t s d, counts-balance, queues-balance)

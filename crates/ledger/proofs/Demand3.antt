@@ -1,15 +1,22 @@
--- Demand 3 holds: one lemma for each kind of call, and the induction over calls. Assumes nothing.
+-- Demand 3 holds for any fair way of sharing room: one lemma for each kind of call, and the induction over calls. Assumes nothing.
 use mathlib.Core.List.{List}
-use Rattle.ledger.specs.Calls.{Corridor, Call, IsAccepted, period, run, recut}
+use Rattle.layout.specs.Corridor.{Corridor}
+use Rattle.period.specs.Sharing.{Sharing, asymmetric}
+use Rattle.period.proofs.Fair.{Fair, asymmetric-is-fair}
+use Rattle.ledger.specs.Calls.{Call, IsAccepted, period, run, recut}
 use Rattle.ledger.specs.Demand3.{Demand3}
 use Rattle.ledger.proofs.Sound.{CallIsSound, demand-3-from}
 use Rattle.ledger.proofs.Periods.{period-is-sound, run-is-sound}
 use Rattle.ledger.proofs.Cuts.{recut-is-sound}
 
-each-call-is-sound : (call : Call) → CallIsSound call
-each-call-is-sound (period demand sheet) = period-is-sound demand sheet
-each-call-is-sound (run demand sheet) = run-is-sound demand sheet
-each-call-is-sound (recut pieces new list) = recut-is-sound pieces new list
+each-call-is-sound : (way : Sharing) → Fair way → (call : Call) → CallIsSound way call
+each-call-is-sound way fair (period demand sheet) = period-is-sound way fair demand sheet
+each-call-is-sound way fair (run demand sheet) = run-is-sound way fair demand sheet
+each-call-is-sound way fair (recut pieces new list) = recut-is-sound way pieces new list
 
-pub demand-3 : (start : Corridor) → IsAccepted start → (calls : List Call) → Demand3 start calls
-demand-3 = demand-3-from each-call-is-sound
+pub demand-3 : (way : Sharing) → Fair way → (start : Corridor) → IsAccepted start → (calls : List Call) → Demand3 way start calls
+demand-3 way fair = demand-3-from way (each-call-is-sound way fair)
+
+-- for the way that the public functions take
+pub demand-3-holds : (start : Corridor) → IsAccepted start → (calls : List Call) → Demand3 asymmetric start calls
+demand-3-holds = demand-3 asymmetric asymmetric-is-fair
