@@ -1,7 +1,6 @@
 pub mod Tests
 pub mod Shares
 pub mod Lists
-pub mod Columns
 pub mod Sums
 pub mod Search
 pub mod Settles
