@@ -6,6 +6,7 @@ use native.Mathlib.Omega.{arith}
 use borrow.Author.Tests.{leb-true, eqb-true}
 use lib.Dec.{leb, eqb}
 use Rattle.whole.specs.Search.{pick, within}
+use Rattle.whole.proofs.Tests.{both-hold}
 use Rattle.refusals.specs.declared.Answer.{Answer}
 use Rattle.refusals.specs.declared.Answer.the-variants.{Accepted, Refused}
 use Rattle.refusals.specs.declared.Refusal.the-variants.{Length}
@@ -13,7 +14,6 @@ use Rattle.refusals.specs.Checks.{answer}
 use Rattle.layout.specs.Layout.{MOST}
 use Rattle.layout.specs.Corridor.{Corridor}
 use Rattle.accept_rows.specs.Acceptance.{stateChecks}
-use Rattle.whole.proofs.Tests.{both-hold}
 use Rattle.program_files.specs.Stops.{broken, refusedIn}
 use Rattle.program_files.specs.Files.{cellsFound, stateFound, acceptedThen}
 use Rattle.program_files.specs.declared.Stop.{Stop}

@@ -5,16 +5,16 @@ use mathlib.Core.List.{List, [], _∷_}
 use lib.Dec.{ltb, leb, eqb}
 use lib.ListN.{length, set}
 use Rattle.whole.specs.Search.{pick, within}
-use Rattle.text_digits.specs.Lines.{CR}
-use Rattle.text_scans.specs.Scans.{begin, feed, untouched}
-use Rattle.text_scans.specs.declared.Step.{Step}
-use Rattle.text_scans.specs.declared.Step.the-variants.{More, Field, Complete, Breaks}
 use Rattle.refusals.specs.declared.Refusal.the-variants.{Length}
 use Rattle.refusals.specs.declared.Answer.{Answer}
 use Rattle.refusals.specs.declared.Answer.the-variants.{Accepted, Refused}
 use Rattle.refusals.specs.Checks.{answer}
 use Rattle.layout.specs.Layout.{MOST}
 use Rattle.layout.specs.Corridor.{Corridor}
+use Rattle.text_digits.specs.Lines.{CR}
+use Rattle.text_scans.specs.Scans.{begin, feed, untouched}
+use Rattle.text_scans.specs.declared.Step.{Step}
+use Rattle.text_scans.specs.declared.Step.the-variants.{More, Field, Complete, Breaks}
 use Rattle.accept_rows.specs.Acceptance.{stateChecks}
 use Rattle.program_files.specs.Stops.{broken, refusedIn}
 use Rattle.program_files.specs.declared.Reading.{Reading}

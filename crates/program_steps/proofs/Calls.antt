@@ -7,19 +7,21 @@ use native.Mathlib.Omega.{arith}
 use borrow.Author.Tests.{leb-true, eqb-true, le-leb, lt-leb}
 use lib.Dec.{leb, eqb}
 use lib.ListN.{length}
-use Rattle.text_digits.specs.declared.Written.the-variants.{To, NoRoom}
-use Rattle.text_scans.specs.Scans.{ended}
-use Rattle.text_records.specs.Reads.{rowAtEnd}
-use Rattle.text_scans.specs.declared.Scan.{Scan}
+use Rattle.whole.proofs.Tests.{both-hold}
 use Rattle.refusals.specs.declared.Answer.{Answer}
 use Rattle.refusals.specs.declared.Answer.the-variants.{Accepted, Refused}
 use Rattle.refusals.specs.declared.Refusal.{Refusal}
-use Rattle.layout.specs.Layout.{demandLength, MOST}
 use Rattle.refusals.specs.Checks.{answer}
-use Rattle.accept_rows.specs.Acceptance.{stateChecks}
-use Rattle.whole.proofs.Tests.{both-hold}
-use Rattle.accept_rows.proofs.Lengths.{cells-most}
+use Rattle.layout.specs.Layout.{demandLength, MOST}
 use Rattle.layout.specs.Sheet.{sheetLength}
+use Rattle.layout.specs.Corridor.{Corridor, cellsOf}
+use Rattle.text_digits.specs.declared.Written.the-variants.{To, NoRoom}
+use Rattle.text_scans.specs.Scans.{ended}
+use Rattle.text_scans.specs.declared.Scan.{Scan}
+use Rattle.text_records.specs.Reads.{rowAtEnd}
+use Rattle.accept_rows.specs.Acceptance.{stateChecks}
+use Rattle.accept_rows.proofs.Lengths.{cells-most}
+use Rattle.period.specs.Sharing.{Sharing}
 use Rattle.program_steps.specs.Lines.{lineWritten, afterLine}
 use Rattle.program_steps.specs.Turns.{Did, reads, breaks, refuses, passes, did, lastRead, didText, linesOf, demandAnswer}
 use Rattle.program_steps.specs.Demand.{Followed, linesRoom, followEnd, andAccepted, runFits, ifFits, runOf, Leaves}
@@ -27,10 +29,8 @@ use Rattle.program_steps.specs.declared.Run.{Run}
 use Rattle.program_steps.specs.declared.Run.the-variants.{Over, Unfit}
 use Rattle.program_steps.specs.declared.Turn.{Turn}
 use Rattle.program_steps.specs.declared.Turn.the-variants as Turn
-use Rattle.program_steps.proofs.Turning.{accepted-fits, accepted-ready}
-use Rattle.layout.specs.Corridor.{Corridor, cellsOf}
-use Rattle.period.specs.Sharing.{Sharing}
 use Rattle.program_steps.specs.Private.{ReadyAt, Put, turnOf, Turned, writtenTo}
+use Rattle.program_steps.proofs.Turning.{accepted-fits, accepted-ready}
 
 -- a line at the start of an output
 

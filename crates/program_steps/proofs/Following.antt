@@ -9,20 +9,22 @@ use lib.Dec.{leb}
 use lib.ListN.{length, set, drop, length-append, length-drop, drop-of-length-le}
 use lib.Seq.{sets, drop-drop}
 use Rattle.whole.specs.Search.{pick}
-use Rattle.text_digits.proofs.Stores.{stores-after}
-use Rattle.text_scans.specs.Scans.{begin, feed}
-use Rattle.text_records.specs.Reads.{readFrom, readOn, rowFrom, rowOn}
-use Rattle.text_scans.specs.declared.Scan.{Scan}
-use Rattle.text_scans.specs.declared.Step.{Step}
-use Rattle.text_scans.specs.declared.Step.the-variants.{More, Field, Complete, Breaks}
-use Rattle.text_records.specs.declared.Read.{Read}
-use Rattle.text_records.specs.declared.Read.the-variants as Read
-use Rattle.text_laws.proofs.Pieces.{reaches-on}
 use Rattle.refusals.specs.declared.Answer.{Answer}
 use Rattle.refusals.specs.declared.Answer.the-variants.{Accepted, Refused}
 use Rattle.layout.specs.Layout.{demandLength}
+use Rattle.layout.specs.Corridor.{Corridor, cellsOf}
+use Rattle.text_digits.proofs.Stores.{stores-after}
+use Rattle.text_scans.specs.Scans.{begin, feed}
+use Rattle.text_scans.specs.declared.Scan.{Scan}
+use Rattle.text_scans.specs.declared.Step.{Step}
+use Rattle.text_scans.specs.declared.Step.the-variants.{More, Field, Complete, Breaks}
+use Rattle.text_records.specs.Reads.{readFrom, readOn, rowFrom, rowOn}
+use Rattle.text_records.specs.declared.Read.{Read}
+use Rattle.text_records.specs.declared.Read.the-variants as Read
+use Rattle.text_laws.proofs.Pieces.{reaches-on}
 use Rattle.period.specs.Sharing.{Sharing}
 use Rattle.period.specs.Period.{sheetOf, corridorAfter}
+use Rattle.period.proofs.Fair.{Fair}
 use Rattle.program_files.specs.Stops.{broken, refusedIn}
 use Rattle.program_files.specs.Files.{counted}
 use Rattle.program_steps.specs.Lines.{stopText}
@@ -32,10 +34,8 @@ use Rattle.program_steps.specs.declared.Run.{Run}
 use Rattle.program_steps.specs.declared.Run.the-variants.{On, Over}
 use Rattle.program_steps.specs.declared.Turn.{Turn}
 use Rattle.program_steps.specs.declared.Turn.the-variants as Turn
-use Rattle.program_steps.proofs.Turning.{ready-again}
-use Rattle.layout.specs.Corridor.{Corridor, cellsOf}
 use Rattle.program_steps.specs.Private.{turnOf, Turned, Ready, ReadyAt}
-use Rattle.period.proofs.Fair.{Fair}
+use Rattle.program_steps.proofs.Turning.{ready-again}
 
 after-after : (a b : List ℕ) (f : Followed) → after a (after b f) ≡ after (a ++ b) f
 after-after a b f = ap (λ (t : List ℕ). record { how = f .how; row = f .row; corridor = f .corridor; sheet = f .sheet; text = t }) (sym (append-assoc a b (f .text)))

@@ -6,12 +6,13 @@ use mathlib.Core.List.{List, [], _∷_, _++_, append-assoc}
 use native.Mathlib.Omega.{arith}
 use lib.ListN.{length, drop, drop-of-length-le}
 use lib.Seq.{drop-drop}
+use Rattle.layout.specs.Corridor.{Corridor}
 use Rattle.text_scans.specs.declared.Scan.{Scan}
+use Rattle.period.specs.Sharing.{Sharing}
 use Rattle.program_steps.specs.Demand.{How, later, over, unfit, Followed, follow, runFits, ifFits, followCall, runOf, Leaves}
 use Rattle.program_steps.specs.Steps.{next-chunk, call}
+use Rattle.program_steps.specs.declared.Run.{Run}
 use Rattle.program_steps.specs.declared.Run.the-variants.{On}
-use Rattle.layout.specs.Corridor.{Corridor}
-use Rattle.period.specs.Sharing.{Sharing}
 use Rattle.program_steps.specs.Private.{Leads}
 
 module _ (way : Sharing) (k₀ : ℕ) (scan₀ : Scan) (row₀ : List ℕ) (c₀ : Corridor) (sheet₀ chunk : List ℕ) where
@@ -22,14 +23,14 @@ module _ (way : Sharing) (k₀ : ℕ) (scan₀ : Scan) (row₀ : List ℕ) (c₀
   leads-here = record { lines = []; on = λ more out follows. follows }
 
   -- a call of `follow` that goes on
-  pub call-leads : {k : ℕ} {scan : Scan} {row : List ℕ} {c : Corridor} {sheet : List ℕ} (from : ℕ) → LeadsTo k scan row c sheet (drop from chunk) → (out piece : List ℕ) → piece ≡ drop from chunk → {read k′ at : ℕ} {scan′ : Scan} {row′ : List ℕ} {c′ : Corridor} {sheet′ out′ : List ℕ}
-      → Leaves (followCall way k scan row c sheet out piece) (length piece) out (On read k′ scan′ at) row′ c′ sheet′ out′ → LeadsTo k′ scan′ row′ c′ sheet′ (drop (from + read) chunk)
+  pub call-leads : {k : ℕ} {scan : Scan} {row : List ℕ} {c : Corridor} {sheet : List ℕ} (from : ℕ) → LeadsTo k scan row c sheet (drop from chunk) → (out piece : List ℕ) → piece ≡ drop from chunk → {run : Run} {read k′ at : ℕ} {scan′ : Scan} {row′ : List ℕ} {c′ : Corridor} {sheet′ out′ : List ℕ}
+      → Leaves (followCall way k scan row c sheet out piece) (length piece) out run row′ c′ sheet′ out′ → run ≡ On read k′ scan′ at → LeadsTo k′ scan′ row′ c′ sheet′ (drop (from + read) chunk)
   unfolding runOf
-  call-leads {k} {scan} {row} {c} {sheet} from leads out piece same {read} {k′} {at} {scan′} {row′} {c′} {sheet′} {out′} left =
+  call-leads {k} {scan} {row} {c} {sheet} from leads out piece same {read = read} {k′} {at} {scan′} {row′} {c′} {sheet′} {out′} left told =
       by (runFits c row sheet out) (same-left .answered) (same-left .leavesRow) (same-left .leavesCorridor) (same-left .leavesSheet)
     where
       same-left : Leaves (followCall way k scan row c sheet out (drop from chunk)) (length (drop from chunk)) out (On read k′ scan′ at) row′ c′ sheet′ out′
-      same-left = rw same at left
+      same-left = rw (same, told) at left
 
       f : Followed
       f = follow way (length out) k scan row c sheet (drop from chunk)

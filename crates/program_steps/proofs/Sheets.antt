@@ -7,17 +7,18 @@ use native.Mathlib.Omega.{arith}
 use lib.Dec.{leb}
 use lib.ListN.{length, set, drop, length-drop, length-append}
 use Rattle.whole.specs.Search.{pick}
-use Rattle.text_records.specs.Texts.{together}
+use Rattle.refusals.specs.declared.Answer.{Answer}
+use Rattle.refusals.specs.declared.Answer.the-variants.{Accepted, Refused}
+use Rattle.layout.specs.Layout.{demandLength}
+use Rattle.layout.specs.Corridor.{Corridor, cellsOf}
 use Rattle.text_scans.specs.Scans.{begin, feed, ended}
-use Rattle.text_records.specs.Reads.{rowAtEnd}
 use Rattle.text_scans.specs.declared.Scan.{Scan}
 use Rattle.text_scans.specs.declared.Step.{Step}
 use Rattle.text_scans.specs.declared.Step.the-variants.{More, Field, Complete, Breaks}
 use Rattle.text_scans.specs.declared.End.{End}
 use Rattle.text_scans.specs.declared.End.the-variants.{Nothing, Last, Cut}
-use Rattle.refusals.specs.declared.Answer.{Answer}
-use Rattle.refusals.specs.declared.Answer.the-variants.{Accepted, Refused}
-use Rattle.layout.specs.Layout.{demandLength}
+use Rattle.text_records.specs.Texts.{together}
+use Rattle.text_records.specs.Reads.{rowAtEnd}
 use Rattle.period.specs.Sharing.{Sharing}
 use Rattle.period.specs.Period.{sheetOf, corridorAfter}
 use Rattle.program_files.specs.Files.{counted}
@@ -27,7 +28,6 @@ use Rattle.program_steps.specs.Program.{lastRecord, recordsFrom, records
 use Rattle.program_steps.specs.Steps.{Follows, next-chunk, call, stop, end}
 use Rattle.program_steps.specs.declared.Run.the-variants.{On}
 use Rattle.program_steps.proofs.Texts.{counted-on, counted-most}
-use Rattle.layout.specs.Corridor.{Corridor, cellsOf}
 
 -- at most so many bytes are left, and of those given each period has used up one; that the lists are not those of a run is found before
 abbrev pub Within : ℕ → ℕ → ℕ → How → Type 0

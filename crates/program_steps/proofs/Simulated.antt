@@ -9,13 +9,19 @@ use lib.Dec.{eqb}
 use lib.ListN.{length, take}
 use lib.Seq.{sets}
 use Rattle.whole.specs.Search.{pick}
-use Rattle.text_records.specs.Texts.{together}
+use Rattle.whole.proofs.Lists.{zeros-length}
+use Rattle.whole.specs.Lists.{zeros}
+use Rattle.refusals.specs.Checks.{answer}
+use Rattle.layout.specs.Layout.{cells, stateLength, demandLength, tableLength, MOST, WIDTH}
+use Rattle.layout.specs.Corridor.{Corridor, corridorOf, cellsOf}
 use Rattle.text_scans.specs.Scans.{begin}
+use Rattle.text_records.specs.Texts.{together}
 use Rattle.text_records.specs.Reads.{held, numbers}
 use Rattle.text_records.specs.declared.Text.{Text}
 use Rattle.text_records.specs.declared.Text.the-variants as Text
 use Rattle.text_laws.proofs.Accepted.{accepted-count}
-use Rattle.layout.specs.Layout.{cells, stateLength, demandLength, tableLength, MOST, WIDTH}
+use Rattle.accept_rows.specs.Acceptance.{stateChecks}
+use Rattle.period.specs.Sharing.{Sharing}
 use Rattle.program_files.specs.Stops.{broken}
 use Rattle.program_files.specs.Files.{cellsFound, stateFound, acceptedThen}
 use Rattle.program_files.specs.declared.File.{File}
@@ -24,17 +30,11 @@ use Rattle.program_files.specs.declared.Found.{Found}
 use Rattle.program_files.specs.declared.Found.the-variants.{Go, Halt}
 use Rattle.program_files.specs.declared.Reading.the-variants.{On}
 use Rattle.program_files.proofs.Finding.{Cells, cells-told, state-told}
-use Rattle.whole.proofs.Lists.{zeros-length}
 use Rattle.program_steps.specs.Lines.{HEADER}
-use Rattle.refusals.specs.Checks.{answer}
-use Rattle.accept_rows.specs.Acceptance.{stateChecks}
 use Rattle.program_steps.specs.Program.{Given, missing, text, textFile, fileGiven, numbersGiven, recordsOn, sheetText, demandText, orHalt, simulated}
 use Rattle.program_steps.specs.Steps.{cellsRead, stateRead, corridorRead, stateAnswer, Chunked, absent, chunks, given, readFile, Writes, cells-stop, state-stop, demand-stop, runs}
 use Rattle.program_steps.proofs.Texts.{file-is-text, pieces-are-whole}
 use Rattle.program_steps.proofs.Sheets.{follows-writes}
-use Rattle.layout.specs.Corridor.{Corridor, corridorOf, cellsOf}
-use Rattle.period.specs.Sharing.{Sharing}
-use Rattle.whole.specs.Lists.{zeros}
 
 -- a file has fewer than 2^64 − 2 bytes: then no count of records or periods comes to its limit
 abbrev pub Short : Chunked → Type 0

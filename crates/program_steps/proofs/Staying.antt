@@ -6,22 +6,22 @@ use mathlib.Core.List.{List, [], _∷_}
 use lib.Dec.{leb}
 use lib.ListN.{length, set, length-set}
 use Rattle.whole.specs.Search.{pick}
+use Rattle.refusals.specs.declared.Answer.{Answer}
+use Rattle.refusals.specs.declared.Answer.the-variants.{Accepted, Refused}
+use Rattle.layout.specs.Layout.{demandLength}
+use Rattle.layout.specs.Corridor.{Corridor, cellsOf}
 use Rattle.text_scans.specs.Scans.{begin, feed}
 use Rattle.text_scans.specs.declared.Scan.{Scan}
 use Rattle.text_scans.specs.declared.Step.{Step}
 use Rattle.text_scans.specs.declared.Step.the-variants.{More, Field, Complete, Breaks}
-use Rattle.refusals.specs.declared.Answer.{Answer}
-use Rattle.refusals.specs.declared.Answer.the-variants.{Accepted, Refused}
-use Rattle.layout.specs.Layout.{demandLength}
 use Rattle.period.specs.Sharing.{Sharing}
 use Rattle.period.specs.Period.{sheetOf, corridorAfter}
+use Rattle.period.proofs.Fair.{Fair}
 use Rattle.program_files.specs.Files.{counted}
 use Rattle.program_steps.specs.Turns.{linesOf, demandAnswer}
 use Rattle.program_steps.specs.Demand.{later, Followed, silent, after, tried, followOf, linesRoom, follow}
-use Rattle.program_steps.proofs.Turning.{still, moved}
-use Rattle.layout.specs.Corridor.{Corridor, cellsOf}
-use Rattle.period.proofs.Fair.{Fair}
 use Rattle.program_steps.specs.Private.{Ready}
+use Rattle.program_steps.proofs.Turning.{still, moved}
 
 module _ {way : Sharing} (fair : Fair way) where
   abbrev Stays : Followed → Type 0

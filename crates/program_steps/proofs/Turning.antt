@@ -5,22 +5,23 @@ use mathlib.Core.Bool.{true}
 use mathlib.Core.List.{List, []}
 use native.Mathlib.Omega.{arith}
 use lib.ListN.{length}
-use Rattle.text_records.specs.Reads.{readOn}
-use Rattle.text_scans.specs.declared.Scan.{Scan}
-use Rattle.text_records.specs.declared.Read.{Read}
-use Rattle.text_records.specs.declared.Read.the-variants.{Record, Part, Broken}
-use Rattle.text_laws.proofs.Pieces.{reaches-on}
 use Rattle.refusals.specs.declared.Refusal.{Refusal}
 use Rattle.refusals.specs.declared.Answer.{Answer}
 use Rattle.refusals.specs.declared.Answer.the-variants.{Accepted, Refused}
-use Rattle.layout.specs.Layout.{demandLength}
 use Rattle.refusals.specs.Checks.{answer, lengths}
-use Rattle.accept_rows.specs.Acceptance.{stateLengthsFit, stateNumbers, stateChecks}
 use Rattle.refusals.proofs.Answers.{accepted-passes}
+use Rattle.layout.specs.Layout.{demandLength}
+use Rattle.layout.specs.Sheet.{sheetLength}
+use Rattle.layout.specs.Corridor.{Corridor, corridorOf, cellsOf}
+use Rattle.text_scans.specs.declared.Scan.{Scan}
+use Rattle.text_records.specs.Reads.{readOn}
+use Rattle.text_records.specs.declared.Read.{Read}
+use Rattle.text_records.specs.declared.Read.the-variants.{Record, Part, Broken}
+use Rattle.text_laws.proofs.Pieces.{reaches-on}
+use Rattle.accept_rows.specs.Acceptance.{stateLengthsFit, stateNumbers, stateChecks}
 use Rattle.accept_rows.proofs.Lengths.{state-length, cells-most}
 use Rattle.period.specs.Sharing.{Sharing}
 use Rattle.period.specs.Period.{sheetOf, stateAfter, RowDone, corridorAfter}
-use Rattle.layout.specs.Sheet.{sheetLength}
 use Rattle.period.proofs.Fair.{Fair}
 use Rattle.period.proofs.Reading.{after-length, of-length}
 use Rattle.period.proofs.Again.{state-stays-accepted}
@@ -31,7 +32,6 @@ use Rattle.program_steps.specs.Lines.{periodText, stopText}
 use Rattle.program_steps.specs.Turns.{Did, breaks, didRow, did, didText, whenPassed, linesOf, demandAnswer}
 use Rattle.program_steps.specs.declared.Turn.{Turn}
 use Rattle.program_steps.specs.declared.Turn.the-variants.{Period, Over}
-use Rattle.layout.specs.Corridor.{Corridor, corridorOf, cellsOf}
 use Rattle.program_steps.specs.Private.{Put, turnOf, Turned, Ready, LinesFrom}
 
 module _ (way : Sharing) (k : ℕ) (c : Corridor) (row sheet out : List ℕ) (at : ℕ) {end : ℕ} {outLeft : List ℕ} where

@@ -10,6 +10,9 @@ use lib.Seq.{length-take-le}
 use lib.Seq.{sets, sets-eq, take-at, drop-cons}
 use Rattle.whole.specs.Lists.{build}
 use Rattle.whole.proofs.Lists.{build-length, build-at}
+use Rattle.layout.specs.Layout.{countAt, cells}
+use Rattle.layout.specs.Sheet.{flowIn, offFlowIn, onFlowIn, modeIn}
+use Rattle.layout.specs.Laid.{stored}
 use Rattle.text_digits.specs.Lines.{digitsOf, restText, lineText}
 use Rattle.text_digits.specs.Writes.{written, afterWriting, restWritten, afterRest}
 use Rattle.text_digits.specs.declared.Written.{Written}
@@ -18,10 +21,7 @@ use Rattle.text_digits.proofs.Lines.{line-at-most, line-starts, rest-fits}
 use Rattle.text_digits.proofs.Digits.{at-most-20}
 use Rattle.text_digits.proofs.Stores.{rest-of, stores-after}
 use Rattle.text_records.specs.Texts.{textOf}
-use Rattle.layout.specs.Layout.{countAt, cells}
-use Rattle.layout.specs.Sheet.{flowIn, offFlowIn, onFlowIn, modeIn}
 use Rattle.program_steps.specs.Lines.{entryRecord, cellRecord, periodText}
-use Rattle.layout.specs.Laid.{stored}
 use Rattle.program_steps.specs.Private.{Put, PutLine, PutDigits, PutCell, LineFits, CellFits}
 
 pub written-to : (out bytes : List ℕ) (at : ℕ) → at + length bytes ≤ length out

@@ -8,20 +8,20 @@ use lib.Dec.{leb, eqb}
 use lib.ListN.{length, set}
 use lib.Seq.{sets}
 use Rattle.whole.specs.Search.{pick}
+use Rattle.refusals.specs.declared.Answer.{Answer}
+use Rattle.refusals.specs.declared.Answer.the-variants.{Accepted, Refused}
+use Rattle.refusals.specs.Checks.{answer}
+use Rattle.layout.specs.Layout.{demandLength}
+use Rattle.layout.specs.Sheet.{sheetLength}
+use Rattle.layout.specs.Corridor.{Corridor, cellsOf}
 use Rattle.text_scans.specs.Scans.{begin, feed, ended}
-use Rattle.text_records.specs.Reads.{rowAtEnd}
 use Rattle.text_scans.specs.declared.Scan.{Scan}
 use Rattle.text_scans.specs.declared.Step.{Step}
 use Rattle.text_scans.specs.declared.Step.the-variants.{More, Field, Complete, Breaks}
-use Rattle.refusals.specs.declared.Answer.{Answer}
-use Rattle.refusals.specs.declared.Answer.the-variants.{Accepted, Refused}
-use Rattle.layout.specs.Layout.{demandLength}
-use Rattle.refusals.specs.Checks.{answer}
+use Rattle.text_records.specs.Reads.{rowAtEnd}
 use Rattle.accept_rows.specs.Acceptance.{stateChecks}
 use Rattle.period.specs.Sharing.{Sharing}
 use Rattle.period.specs.Period.{sheetOf, corridorAfter}
-use Rattle.layout.specs.Sheet.{sheetLength}
-use Rattle.layout.specs.Corridor.{Corridor, cellsOf}
 use Rattle.program_files.specs.Stops.{broken, refusedIn}
 use Rattle.program_files.specs.Files.{counted}
 use Rattle.program_files.specs.declared.Stop.{Stop}

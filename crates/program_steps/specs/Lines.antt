@@ -6,12 +6,12 @@ use lib.ListN.{length}
 use lib.Seq.{sets}
 use Rattle.whole.specs.Lists.{build}
 use Rattle.whole.specs.Search.{pick}
+use Rattle.layout.specs.Layout.{entryQueue, countAt}
+use Rattle.layout.specs.Sheet.{flowIn, offFlowIn, onFlowIn, modeIn}
 use Rattle.text_digits.specs.Lines.{LF, CR, lineText}
 use Rattle.text_digits.specs.declared.Written.{Written}
 use Rattle.text_digits.specs.declared.Written.the-variants.{To, NoRoom}
 use Rattle.text_records.specs.Texts.{textOf}
-use Rattle.layout.specs.Layout.{entryQueue, countAt}
-use Rattle.layout.specs.Sheet.{flowIn, offFlowIn, onFlowIn, modeIn}
 use Rattle.program_files.specs.declared.Stop.{Stop}
 
 -- the header: k,i,n,f,s,r,mode

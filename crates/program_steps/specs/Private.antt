@@ -7,14 +7,14 @@ use mathlib.Core.List.{List, _++_}
 use lib.ListN.{length}
 use lib.Seq.{sets}
 use Rattle.whole.specs.Lists.{build}
-use Rattle.text_digits.specs.Lines.{digitsOf, lineText}
-use Rattle.text_records.specs.Texts.{textOf}
-use Rattle.text_scans.specs.declared.Scan.{Scan}
 use Rattle.refusals.specs.declared.Answer.the-variants.{Accepted}
 use Rattle.refusals.specs.Checks.{answer}
 use Rattle.layout.specs.Layout.{MOST, stateLength, demandLength}
 use Rattle.layout.specs.Sheet.{sheetLength}
 use Rattle.layout.specs.Corridor.{Corridor, cellsOf}
+use Rattle.text_digits.specs.Lines.{digitsOf, lineText}
+use Rattle.text_scans.specs.declared.Scan.{Scan}
+use Rattle.text_records.specs.Texts.{textOf}
 use Rattle.accept_rows.specs.Acceptance.{stateLengthsFit, stateNumbers}
 use Rattle.period.specs.Sharing.{Sharing}
 use Rattle.period.specs.Period.{sheetOf, corridorAfter}

@@ -3,19 +3,19 @@ use Prim.Native.Nat.{ℕ, _+_}
 use mathlib.Core.List.{List, [], _∷_, _++_}
 use lib.ListN.{set}
 use Rattle.whole.specs.Lists.{zeros}
+use Rattle.refusals.specs.declared.Answer.{Answer}
+use Rattle.refusals.specs.declared.Answer.the-variants.{Accepted, Refused}
+use Rattle.layout.specs.Layout.{WIDTH, stateLength, demandLength}
+use Rattle.layout.specs.Corridor.{Corridor, corridorOf, cellsOf}
 use Rattle.text_scans.specs.Scans.{begin, feed, ended}
-use Rattle.text_records.specs.Reads.{held, numbers, rowAtEnd}
 use Rattle.text_scans.specs.declared.Scan.{Scan}
 use Rattle.text_scans.specs.declared.Step.{Step}
 use Rattle.text_scans.specs.declared.Step.the-variants.{More, Field, Complete, Breaks}
 use Rattle.text_scans.specs.declared.End.{End}
 use Rattle.text_scans.specs.declared.End.the-variants.{Nothing, Last, Cut}
+use Rattle.text_records.specs.Reads.{held, numbers, rowAtEnd}
 use Rattle.text_records.specs.declared.Text.{Text}
 use Rattle.text_records.specs.declared.Text.the-variants as Text
-use Rattle.refusals.specs.declared.Answer.{Answer}
-use Rattle.refusals.specs.declared.Answer.the-variants.{Accepted, Refused}
-use Rattle.layout.specs.Layout.{WIDTH, stateLength, demandLength}
-use Rattle.layout.specs.Corridor.{Corridor, corridorOf, cellsOf}
 use Rattle.period.specs.Sharing.{Sharing}
 use Rattle.period.specs.Period.{corridorAfter}
 use Rattle.program_files.specs.Stops.{broken, refusedIn}

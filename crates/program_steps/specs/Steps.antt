@@ -5,12 +5,12 @@ use mathlib.Core.Path.{_≡_}
 use mathlib.Core.List.{List, [], _∷_, _++_}
 use lib.ListN.{length, take, drop}
 use Rattle.whole.specs.Lists.{zeros}
-use Rattle.text_records.specs.Texts.{together}
-use Rattle.text_scans.specs.Scans.{begin}
-use Rattle.text_scans.specs.declared.Scan.{Scan}
 use Rattle.layout.specs.Layout.{WIDTH, MOST, tableLength, stateLength, demandLength}
 use Rattle.layout.specs.Sheet.{sheetLength}
 use Rattle.layout.specs.Corridor.{Corridor, corridorOf}
+use Rattle.text_scans.specs.Scans.{begin}
+use Rattle.text_scans.specs.declared.Scan.{Scan}
+use Rattle.text_records.specs.Texts.{together}
 use Rattle.period.specs.Sharing.{Sharing}
 use Rattle.program_files.specs.Files.{fileOn, fileEnd, cellsFound, stateFound, demandLost}
 use Rattle.program_files.specs.declared.Stop.{Stop}

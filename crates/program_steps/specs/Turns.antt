@@ -1,17 +1,17 @@
 -- Document 01, "The text and the program": a demand record is read, checked, run and written, one for each period.
 use Prim.Native.Nat.{ℕ}
 use mathlib.Core.List.{List, []}
-use Rattle.text_scans.specs.Scans.{begin}
-use Rattle.text_scans.specs.declared.Scan.{Scan}
-use Rattle.text_records.specs.declared.Read.{Read}
-use Rattle.text_records.specs.declared.Read.the-variants.{Record, Part, Broken}
-use Rattle.text_scans.specs.declared.End.{End}
-use Rattle.text_scans.specs.declared.End.the-variants.{Nothing, Last, Cut}
 use Rattle.refusals.specs.declared.Refusal.{Refusal}
 use Rattle.refusals.specs.declared.Answer.{Answer}
 use Rattle.refusals.specs.declared.Answer.the-variants.{Accepted, Refused}
 use Rattle.refusals.specs.Checks.{answer}
 use Rattle.layout.specs.Corridor.{Corridor, cellsOf}
+use Rattle.text_scans.specs.Scans.{begin}
+use Rattle.text_scans.specs.declared.Scan.{Scan}
+use Rattle.text_scans.specs.declared.End.{End}
+use Rattle.text_scans.specs.declared.End.the-variants.{Nothing, Last, Cut}
+use Rattle.text_records.specs.declared.Read.{Read}
+use Rattle.text_records.specs.declared.Read.the-variants.{Record, Part, Broken}
 use Rattle.accept_rows.specs.Acceptance.{demandNumbers}
 use Rattle.period.specs.Sharing.{Sharing}
 use Rattle.period.specs.Period.{sheetOf, stateAfter}

@@ -2,8 +2,8 @@
 use borrow.Author.Needs.{needs}
 use mathlib.Core.Path.{_≡_, ap, sym, _∙_}
 use Rattle.program_files.specs.Files.{counted, fileOf}
-use Rattle.program_files.proofs.FilePieces.{byte-does, stays-broken}
 use Rattle.program_files.specs.declared.Reading.the-variants.{On, Broken}
+use Rattle.program_files.proofs.FilePieces.{byte-does, stays-broken}
 use Rattle.program_files.proofs.read_byte.Statement.{statement}
 use Rattle.program_files.proofs.read_byte.Tie as tie
 

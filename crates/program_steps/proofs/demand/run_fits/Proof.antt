@@ -1,9 +1,9 @@
 -- `program_steps::demand::run_fits` meets its contract. Assumes nothing.
 use mathlib.Core.Path.{sym, _∙_}
-use Rattle.program_steps.proofs.Calls.{accepted-run-fits, refused-fits, accepted-cells}
 use borrow.Author.Needs.{needs}
-use Rattle.program_steps.proofs.demand.run_fits.Statement.{statement}
 use Rattle.layout.specs.Corridor.{corridorOf}
+use Rattle.program_steps.proofs.Calls.{accepted-run-fits, refused-fits, accepted-cells}
+use Rattle.program_steps.proofs.demand.run_fits.Statement.{statement}
 use Rattle.program_steps.proofs.demand.run_fits.Tie as tie
 
 abbrev counted : tie.After-sheet-length → tie.After-cells

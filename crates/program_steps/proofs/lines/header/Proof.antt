@@ -1,7 +1,7 @@
 -- `program_steps::lines::header` meets its contract. Assumes nothing.
+use borrow.Author.Needs.{needs}
 use Rattle.program_steps.specs.Lines.{HEADER}
 use Rattle.program_steps.proofs.Calls.{no-line, line-put}
-use borrow.Author.Needs.{needs}
 use Rattle.program_steps.proofs.lines.header.Statement.{statement}
 use Rattle.program_steps.proofs.lines.header.Tie as tie
 

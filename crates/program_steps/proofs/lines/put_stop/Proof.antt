@@ -1,7 +1,7 @@
 -- `program_steps::lines::put_stop` meets its contract. Assumes nothing.
 use borrow.Author.Needs.{needs}
-use Rattle.program_steps.specs.Lines.{stopText}
 use mathlib.Core.Path.{refl}
+use Rattle.program_steps.specs.Lines.{stopText}
 use Rattle.program_steps.proofs.Writing.{seven-same, same-line}
 use Rattle.program_steps.proofs.lines.put_stop.Statement.{statement}
 use Rattle.program_steps.proofs.lines.put_stop.Tie as tie

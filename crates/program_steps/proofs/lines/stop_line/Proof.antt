@@ -1,6 +1,6 @@
 -- `program_steps::lines::stop_line` meets its contract. Assumes nothing.
-use Rattle.program_steps.proofs.Calls.{no-line, line-put}
 use borrow.Author.Needs.{needs}
+use Rattle.program_steps.proofs.Calls.{no-line, line-put}
 use Rattle.program_steps.proofs.lines.stop_line.Statement.{statement}
 use Rattle.program_steps.proofs.lines.stop_line.Tie as tie
 

@@ -2,9 +2,9 @@
 use borrow.Author.Needs.{needs}
 use mathlib.Core.Path.{refl}
 use Rattle.program_steps.specs.Turns.{reads, did, didText, whenPassed}
+use Rattle.program_steps.specs.Private.{turnOf}
 use Rattle.program_steps.proofs.Turning.{nothing-written, break-stops}
 use Rattle.program_steps.proofs.turns.turn_of.Statement.{statement}
-use Rattle.program_steps.specs.Private.{turnOf}
 use Rattle.program_steps.proofs.turns.turn_of.Tie as tie
 
 returns : tie.Need-returns
