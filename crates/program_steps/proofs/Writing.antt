@@ -24,16 +24,16 @@ use Rattle.text_records.specs.Texts.{textOf}
 use Rattle.program_steps.specs.Lines.{LONGEST, entryRecord, cellRecord, periodText}
 use Rattle.program_steps.specs.Private.{Put, PutLine, PutDigits, PutCell, LineFits, CellFits}
 
-pub written-to : (out bytes : List ℕ) (at : ℕ) → at + length bytes ≤ length out
+written-to : (out bytes : List ℕ) (at : ℕ) → at + length bytes ≤ length out
     → (written out at bytes ≡ To (at + length bytes)) × (afterWriting out at bytes ≡ sets out at bytes)
 unfolding written afterWriting
 written-to out bytes at fits = (rw (le-leb (at + length bytes) (length out) fits), rw (le-leb (at + length bytes) (length out) fits))
 
 -- what was written ends at one place
-pub same-end : {w : Written} {end place : ℕ} → w ≡ To end → w ≡ To place → end ≡ place
+same-end : {w : Written} {end place : ℕ} → w ≡ To end → w ≡ To place → end ≡ place
 same-end p q = cc
 
-pub had-room : {w : Written} {place : ℕ} → w ≡ NoRoom → w ≡ To place → ⊥
+had-room : {w : Written} {place : ℕ} → w ≡ NoRoom → w ≡ To place → ⊥
 had-room p q = let z : _≡_ {A = ℕ} 0 1 = cc in omega arith
 
 -- a line of seven numbers is written, since it has room

@@ -72,7 +72,7 @@ followOf Breaks k row c sheet on complete = stopped (broken k k 3) row c sheet
 abbrev pub linesRoom : ℕ → ℕ
 linesRoom n = LONGEST * (n + 1)
 
--- the lists of a run: an accepted corridor, a row and a sheet of their lengths, and room for a period's lines
+-- the lists of a run: an accepted table and state, a row and a sheet of their lengths, and room for a period's lines
 unfoldable pub andAccepted : Answer → Bool → Bool
 andAccepted Accepted fits = fits
 andAccepted (Refused refusal) fits = false
