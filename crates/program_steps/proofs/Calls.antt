@@ -22,7 +22,7 @@ use Rattle.text_records.specs.Reads.{rowAtEnd}
 use Rattle.accept_rows.specs.Acceptance.{stateChecks}
 use Rattle.accept_rows.proofs.Lengths.{cells-most}
 use Rattle.period.specs.Sharing.{Sharing}
-use Rattle.program_steps.specs.Lines.{LONGEST, lineWritten, afterLine}
+use Rattle.program_steps.specs.Lines.{lineRoom, lineWritten, afterLine}
 use Rattle.program_steps.specs.Turns.{Did, reads, breaks, refuses, passes, did, lastRead, didText, linesOf, demandAnswer}
 use Rattle.program_steps.specs.Demand.{Followed, linesRoom, followEnd, andAccepted, runFits, ifFits, runOf, Leaves}
 use Rattle.program_steps.specs.declared.Run.{Run}
@@ -34,15 +34,15 @@ use Rattle.program_steps.proofs.Turning.{accepted-fits, accepted-ready}
 
 -- a line at the start of an output
 
-pub no-line : (out text : List ℕ) → length out < LONGEST → (NoRoom ≡ lineWritten out text) × (out ≡ afterLine out text)
+pub no-line : (out text : List ℕ) → length out < lineRoom → (NoRoom ≡ lineWritten out text) × (out ≡ afterLine out text)
 unfolding lineWritten afterLine
-no-line out text short = (rw (lt-leb LONGEST (length out) short), rw (lt-leb LONGEST (length out) short))
+no-line out text short = (rw (lt-leb lineRoom (length out) short), rw (lt-leb lineRoom (length out) short))
 
-pub line-put : (out text : List ℕ) {to : ℕ} {later : List ℕ} → LONGEST ≤ length out → Put text out 0 to later → (To to ≡ lineWritten out text) × (later ≡ afterLine out text)
+pub line-put : (out text : List ℕ) {to : ℕ} {later : List ℕ} → lineRoom ≤ length out → Put text out 0 to later → (To to ≡ lineWritten out text) × (later ≡ afterLine out text)
 unfolding lineWritten afterLine
 line-put out text {to} has put =
     let so-many : to ≡ length text = omega (arith, put .ends) in
-    (rw (le-leb LONGEST (length out) has) (ap To so-many), rw (le-leb LONGEST (length out) has) (put .stores))
+    (rw (le-leb lineRoom (length out) has) (ap To so-many), rw (le-leb lineRoom (length out) has) (put .stores))
 
 pub no-room : (n size at : ℕ) → size < at → false ≡ leb (linesRoom n) (size - at)
 no-room n size at past = sym (lt-leb (linesRoom n) (size - at) (omega arith))

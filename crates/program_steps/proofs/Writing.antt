@@ -21,7 +21,7 @@ use Rattle.text_digits.proofs.Lines.{line-at-most, line-starts, rest-fits}
 use Rattle.text_digits.proofs.Digits.{at-most-20}
 use Rattle.text_digits.proofs.Stores.{rest-of, stores-after}
 use Rattle.text_records.specs.Texts.{textOf}
-use Rattle.program_steps.specs.Lines.{LONGEST, entryRecord, cellRecord, periodText}
+use Rattle.program_steps.specs.Lines.{lineRoom, entryRecord, cellRecord, periodText}
 use Rattle.program_steps.specs.Private.{Put, PutLine, PutDigits, PutCell, LineFits, CellFits}
 
 written-to : (out bytes : List ℕ) (at : ℕ) → at + length bytes ≤ length out
@@ -38,7 +38,7 @@ had-room p q = let z : _≡_ {A = ℕ} 0 1 = cc in omega arith
 
 -- a line of seven numbers is written, since it has room
 module _ (numbers out : List ℕ) (at : ℕ) (fits : LineFits numbers out at) (small : (i : ℕ) → getD numbers i 0 < 2 ^ 64) {w : Written} (told : w ≡ written out at (lineText numbers)) where
-  within-room : at + length (lineText numbers) ≤ at + LONGEST
+  within-room : at + length (lineText numbers) ≤ at + lineRoom
   within-room = omega (arith, line-at-most numbers small, fits .seven)
 
   to : (written out at (lineText numbers) ≡ To (at + length (lineText numbers))) × (afterWriting out at (lineText numbers) ≡ sets out at (lineText numbers))
@@ -76,10 +76,10 @@ module _ (k n : ℕ) (state sheet : List ℕ) where
   pub record Writing (out₀ : List ℕ) (at i : ℕ) (out : List ℕ) (to : ℕ) : Type 0 where
     pub stores : sets out to (textOf (drop i rows)) ≡ sets out₀ at (textOf rows)
     pub ends : to + length (textOf (drop i rows)) ≡ at + length (textOf rows)
-    pub room : to + LONGEST * (n - i) ≤ length out
+    pub room : to + lineRoom * (n - i) ≤ length out
     pub same : length out ≡ length out₀
 
-  pub none-written : (out : List ℕ) (at : ℕ) → at + LONGEST * n ≤ length out → Writing out at 0 out at
+  pub none-written : (out : List ℕ) (at : ℕ) → at + lineRoom * n ≤ length out → Writing out at 0 out at
   none-written out at room = record { stores = refl; ends = refl; room = omega arith; same = refl }
 
   next-row : (i : ℕ) → i < n → drop i rows ≡ cellRecord k n state sheet i ∷ drop (i + 1) rows
@@ -89,7 +89,7 @@ module _ (k n : ℕ) (state sheet : List ℕ) where
       ∙ ap (λ (row : List ℕ). row ∷ drop (suc i) rows) (build-at n (cellRecord k n state sheet) i [] h)
       ∙ ap (λ (j : ℕ). cellRecord k n state sheet i ∷ drop j rows) (sym (add-one i))
 
-  pub cell-written : {out₀ out later : List ℕ} {at i to after : ℕ} → Writing out₀ at i out to → i < n → Put (lineText (cellRecord k n state sheet i)) out to after later → after ≤ to + LONGEST
+  pub cell-written : {out₀ out later : List ℕ} {at i to after : ℕ} → Writing out₀ at i out to → i < n → Put (lineText (cellRecord k n state sheet i)) out to after later → after ≤ to + lineRoom
       → length later ≡ length out → Writing out₀ at (i + 1) later after
   unfolding textOf
   cell-written {out = out} {i = i} {to = to} writing h put most same =

@@ -25,7 +25,7 @@ use Rattle.period.specs.Period.{sheetOf, corridorAfter}
 use Rattle.program_files.specs.Stops.{broken, refusedIn}
 use Rattle.program_files.specs.Files.{counted}
 use Rattle.program_files.specs.declared.Stop.{Stop}
-use Rattle.program_steps.specs.Lines.{LONGEST, stopText}
+use Rattle.program_steps.specs.Lines.{lineRoom, stopText}
 use Rattle.program_steps.specs.Turns.{Did, did, lastRead, didText, whenPassed, demandAnswer, linesOf}
 use Rattle.program_steps.specs.declared.Run.{Run}
 use Rattle.program_steps.specs.declared.Run.the-variants.{On, Over, Unfit}
@@ -70,7 +70,7 @@ followOf Breaks k row c sheet on complete = stopped (broken k k 3) row c sheet
 
 -- the lines of a period of n cells take at most so many bytes
 abbrev pub linesRoom : ℕ → ℕ
-linesRoom n = LONGEST * (n + 1)
+linesRoom n = lineRoom * (n + 1)
 
 -- the lists of a run: an accepted table and state, a row and a sheet of their lengths, and room for a period's lines
 unfoldable pub andAccepted : Answer → Bool → Bool

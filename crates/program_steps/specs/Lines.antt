@@ -40,12 +40,12 @@ unfoldable pub stopText : Stop → List ℕ
 stopText stop = lineText (stopRecord stop)
 
 -- the most bytes of a line: seven numbers of at most 20 digits, each with a comma, and its end
-abbrev pub LONGEST : ℕ
-LONGEST = 149
+abbrev pub lineRoom : ℕ
+lineRoom = 149
 
 -- a line at the start of an output, where that has room for the longest
 unfoldable pub lineWritten : List ℕ → List ℕ → Written
-lineWritten out text = pick (leb LONGEST (length out)) (To (length text)) NoRoom
+lineWritten out text = pick (leb lineRoom (length out)) (To (length text)) NoRoom
 
 unfoldable pub afterLine : List ℕ → List ℕ → List ℕ
-afterLine out text = pick (leb LONGEST (length out)) (sets out 0 text) out
+afterLine out text = pick (leb lineRoom (length out)) (sets out 0 text) out

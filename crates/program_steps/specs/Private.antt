@@ -18,7 +18,7 @@ use Rattle.text_records.specs.Texts.{textOf}
 use Rattle.accept_rows.specs.Acceptance.{stateLengthsFit, stateNumbers}
 use Rattle.period.specs.Sharing.{Sharing}
 use Rattle.period.specs.Period.{sheetOf, corridorAfter}
-use Rattle.program_steps.specs.Lines.{LONGEST, cellRecord}
+use Rattle.program_steps.specs.Lines.{lineRoom, cellRecord}
 use Rattle.program_steps.specs.Turns.{Did, reads, breaks, refuses, passes, didText, whenPassed, linesOf}
 use Rattle.program_steps.specs.Demand.{linesRoom}
 use Rattle.program_steps.specs.Steps.{Follows}
@@ -28,13 +28,13 @@ use Rattle.program_steps.specs.declared.Turn.the-variants.{Part, Period,
 -- seven numbers, and room for the longest line of them at a position
 pub record LineFits (numbers out : List ℕ) (at : ℕ) : Type 0 where
   pub seven : length numbers ≡ 7
-  pub room : at + LONGEST ≤ length out
+  pub room : at + lineRoom ≤ length out
 
 -- the entry's line
 pub record EntryFits (state sheet out : List ℕ) (at : ℕ) : Type 0 where
   pub in-state : 1 ≤ length state
   pub in-sheet : 1 ≤ length sheet
-  pub room : at + LONGEST ≤ length out
+  pub room : at + lineRoom ≤ length out
 
 -- the state and the sheet that the lines of n cells come from
 pub record LinesFrom (n : ℕ) (state sheet : List ℕ) : Type 0 where
@@ -47,13 +47,13 @@ pub record CellFits (period : List ℕ) (n i : ℕ) (state sheet out : List ℕ)
   pub short : length period ≤ 20
   pub inside : i + 1 ≤ n
   pub from : LinesFrom n state sheet
-  pub room : at + LONGEST ≤ length out
+  pub room : at + lineRoom ≤ length out
 
 -- the lines of n cells
 pub record CellsFit (period : List ℕ) (n : ℕ) (state sheet out : List ℕ) (at : ℕ) : Type 0 where
   pub short : length period ≤ 20
   pub from : LinesFrom n state sheet
-  pub room : at + LONGEST * n ≤ length out
+  pub room : at + lineRoom * n ≤ length out
 
 -- the lines of a period of n cells
 pub record PeriodFits (n : ℕ) (state sheet out : List ℕ) (at : ℕ) : Type 0 where
@@ -68,7 +68,7 @@ pub record Put (text out : List ℕ) (at end : ℕ) (outLeft : List ℕ) : Type 
 -- a line, which is no longer than the longest
 pub record PutLine (text out : List ℕ) (at end : ℕ) (outLeft : List ℕ) : Type 0 where
   pub put : Put text out at end outLeft
-  pub within : end ≤ at + LONGEST
+  pub within : end ≤ at + lineRoom
 
 -- the digits of a period's number, at the start of a space for them
 pub record PutDigits (k : ℕ) (space : List ℕ) (end : ℕ) (spaceLeft : List ℕ) : Type 0 where
@@ -79,7 +79,7 @@ pub record PutDigits (k : ℕ) (space : List ℕ) (end : ℕ) (spaceLeft : List 
 -- the line of the cell of index i, and the lines of n cells, under the period that the digits are of
 pub record PutCell (period : List ℕ) (n i : ℕ) (state sheet out : List ℕ) (at end : ℕ) (outLeft : List ℕ) : Type 0 where
   pub put : (k : ℕ) → period ≡ digitsOf k → Put (lineText (cellRecord k n state sheet i)) out at end outLeft
-  pub within : end ≤ at + LONGEST
+  pub within : end ≤ at + lineRoom
 
 abbrev pub PutCells : List ℕ → ℕ → List ℕ → List ℕ → List ℕ → ℕ → ℕ → List ℕ → Type 0
 PutCells period n state sheet out at end outLeft =

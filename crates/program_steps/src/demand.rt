@@ -10,7 +10,7 @@ ghost use Rattle.program_steps.specs.Demand.{linesRoom, follow, followEn
 ghost use Rattle.program_steps.specs.Private.{ReadyAt};
 use crate::Run;
 use crate::Turn;
-use crate::lines::LONGEST;
+use crate::lines::LINE_ROOM;
 use crate::turns::last_read;
 use crate::turns::turn;
 use crate::turns::turn_of;
@@ -30,7 +30,7 @@ fn has_room(size: usize, at: usize, n: usize) -> bool
     if size < at {
         return false;
     }
-    LONGEST * (n + 1) <= size - at
+    LINE_ROOM * (n + 1) <= size - at
 }
 
 // Whether the lists are those of a run.

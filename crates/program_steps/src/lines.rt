@@ -3,7 +3,7 @@ ghost use mathlib.Core.Path.{_≡_};
 ghost use Prim.Native.Nat.{_+_, _≤_};
 ghost use lib.ListN.{length};
 ghost use Rattle.text_digits.specs.Lines.{lineText};
-ghost use Rattle.program_steps.specs.Lines.{LONGEST, HEADER, entryRecord, periodText, stopText, lineWritten, afterLine};
+ghost use Rattle.program_steps.specs.Lines.{lineRoom, HEADER, entryRecord, periodText, stopText, lineWritten, afterLine};
 ghost use Rattle.program_steps.specs.Private.{Put, PutLine, PutDigits, PutCell, PutCells, LineFits, EntryFits, CellFits, CellsFit, PeriodFits};
 use layout::sheet::*;
 use layout::*;
@@ -11,7 +11,7 @@ use program_files::Stop;
 use text_digits::Written;
 
 // The most bytes of a line: seven numbers of at most 20 digits, each with a comma, and its end.
-pub(crate) const LONGEST: usize = 149;
+pub(crate) const LINE_ROOM: usize = 149;
 
 fn wide(number: u32) -> u64
     ensures { λ r. ⌜ r ≡ number ⌝ }
@@ -43,7 +43,7 @@ pub fn header(out: &mut [u8]) -> Written
     ensures answer { λ r. ⌜ r ≡ lineWritten (now (out .entry)) HEADER ⌝ }
     ensures stores { λ _. ⌜ now (out .exit) ≡ afterLine (now (out .entry)) HEADER ⌝ }
 {
-    if out.len() < LONGEST {
+    if out.len() < LINE_ROOM {
         return Written::NoRoom;
     }
     Written::To(put_bytes(b"k,i,n,f,s,r,mode\r\n", out, 0))
@@ -63,7 +63,7 @@ fn put_line(numbers: &[u64], out: &mut [u8], at: usize) -> usize
 
 // A refusal's line.
 pub(crate) fn put_stop(stop: Stop, out: &mut [u8], at: usize) -> usize
-    requires { ⌜ at + LONGEST ≤ length (now out) ⌝ }
+    requires { ⌜ at + lineRoom ≤ length (now out) ⌝ }
     ensures { λ r. ⌜ Put (stopText stop) (now (out .entry)) at r (now (out .exit)) ⌝ }
 {
     let line = [
@@ -83,7 +83,7 @@ pub fn stop_line(stop: Stop, out: &mut [u8]) -> Written
     ensures answer { λ r. ⌜ r ≡ lineWritten (now (out .entry)) (stopText stop) ⌝ }
     ensures stores { λ _. ⌜ now (out .exit) ≡ afterLine (now (out .entry)) (stopText stop) ⌝ }
 {
-    if out.len() < LONGEST {
+    if out.len() < LINE_ROOM {
         return Written::NoRoom;
     }
     Written::To(put_stop(stop, out, 0))

@@ -5,13 +5,13 @@ use native.Mathlib.Omega.{arith}
 use borrow.Author.Needs.{needs}
 use lib.ListN.{length}
 use Rattle.text_digits.specs.Lines.{digitsOf}
-use Rattle.program_steps.specs.Lines.{LONGEST}
+use Rattle.program_steps.specs.Lines.{lineRoom}
 use Rattle.program_steps.proofs.Writing.{Writing, none-written, cell-written, all-written}
 use Rattle.program_steps.proofs.lines.put_cells.Statement.{statement}
 use Rattle.program_steps.proofs.lines.put_cells.Tie as tie
 
 abbrev Inv-loop : tie.InvT-loop
-Inv-loop period n state sheet out₀ at to₀ i₀ out to i = ((k : ℕ) → period ≡ digitsOf k → Writing k n state sheet out₀ at i out to) × (i ≤ n) × (to + LONGEST * (n - i) ≤ length out) × (length out ≡ length out₀)
+Inv-loop period n state sheet out₀ at to₀ i₀ out to i = ((k : ℕ) → period ≡ digitsOf k → Writing k n state sheet out₀ at i out to) × (i ≤ n) × (to + lineRoom * (n - i) ≤ length out) × (length out ≡ length out₀)
 
 abbrev μ-loop : tie.MeasureT-loop
 μ-loop period n state sheet out₀ at to₀ i₀ out to i = n - i
