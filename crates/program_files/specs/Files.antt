@@ -5,14 +5,16 @@ use mathlib.Core.List.{List, [], _∷_}
 use lib.Dec.{ltb, leb, eqb}
 use lib.ListN.{length, set}
 use Rattle.whole.specs.Search.{pick, within}
-use Rattle.text_digits.specs.Lines.{CR}
-use Rattle.text_scans.specs.Scans.{begin, feed, untouched}
-use Rattle.text_scans.specs.declared.Step.{Step}
-use Rattle.text_scans.specs.declared.Step.the-variants.{More, Field, Complete, Breaks}
 use Rattle.refusals.specs.declared.Refusal.the-variants.{Length}
 use Rattle.refusals.specs.declared.Answer.{Answer}
 use Rattle.refusals.specs.declared.Answer.the-variants.{Accepted, Refused}
 use Rattle.refusals.specs.Checks.{answer}
+use Rattle.layout.specs.Layout.{MOST}
+use Rattle.layout.specs.Corridor.{Corridor}
+use Rattle.text_digits.specs.Lines.{CR}
+use Rattle.text_scans.specs.Scans.{begin, feed, untouched}
+use Rattle.text_scans.specs.declared.Step.{Step}
+use Rattle.text_scans.specs.declared.Step.the-variants.{More, Field, Complete, Breaks}
 use Rattle.accept_rows.specs.Acceptance.{stateChecks}
 use Rattle.program_files.specs.Stops.{broken, refusedIn}
 use Rattle.program_files.specs.declared.Reading.{Reading}
@@ -59,18 +61,17 @@ fileEnd fields (Broken place) list = (BrokenAt place, list)
 unfoldable pub cellsFound : File → Found
 cellsFound Lost = Halt (broken 0 0 1)
 cellsFound (BrokenAt place) = Halt (broken 0 place 1)
-cellsFound (Holds n) = pick (within 1 512 n) (Go n) (Halt (refusedIn 0 Length))
+cellsFound (Holds n) = pick (within 1 MOST n) (Go n) (Halt (refusedIn 0 Length))
 
 -- The state: its one record missing has the place it would have, one after it its own; then 2 to 5.
 unfoldable pub acceptedThen : Answer → Found
 acceptedThen Accepted = Go 1
 acceptedThen (Refused refusal) = Halt (refusedIn 0 refusal)
 
-unfoldable pub stateFound : File → List ℕ → List ℕ → Found
-stateFound Lost table state = Halt (broken 0 0 2)
-stateFound (BrokenAt place) table state = Halt (broken 0 (pick (leb place 1) 1 2) 2)
-stateFound (Holds n) table state =
-    pick (eqb n 0) (Halt (broken 0 1 2)) (pick (eqb n 1) (acceptedThen (answer (stateChecks table state))) (Halt (broken 0 2 2)))
+unfoldable pub stateFound : File → Corridor → Found
+stateFound Lost c = Halt (broken 0 0 2)
+stateFound (BrokenAt place) c = Halt (broken 0 (pick (leb place 1) 1 2) 2)
+stateFound (Holds n) c = pick (eqb n 0) (Halt (broken 0 1 2)) (pick (eqb n 1) (acceptedThen (answer (stateChecks c))) (Halt (broken 0 2 2)))
 
 -- The demand: it is missing before the first period, or can't be read on while period k is tried.
 abbrev pub demandLost : ℕ → Stop

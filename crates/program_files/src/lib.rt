@@ -6,6 +6,7 @@ ghost use mathlib.Core.List.{_∷_, []};
 ghost use Rattle.whole.specs.Search.{pick};
 ghost use Rattle.text_scans.specs.Scans.{begin, untouched};
 ghost use Rattle.refusals.specs.Checks.{answer};
+ghost use Rattle.layout.specs.Corridor.{corridorOf};
 ghost use Rattle.accept_rows.specs.Acceptance.{stateChecks};
 ghost use Rattle.program_files.specs.Stops.{broken, refusedIn};
 ghost use Rattle.program_files.specs.Files.{counted, nextIndex, fileOn, fileEnd, cellsFound, stateFound, acceptedThen, demandLost};
@@ -222,7 +223,7 @@ pub fn cells_found(file: File) -> Found
 
 // Numbers 2 to 5.
 fn accepted_then(table: &[u32], state: &[u32]) -> Found
-    ensures { λ r. ⌜ r ≡ acceptedThen (answer (stateChecks (now (table .entry)) (now (state .entry)))) ⌝ }
+    ensures { λ r. ⌜ r ≡ acceptedThen (answer (stateChecks (corridorOf (now (table .entry)) (now (state .entry))))) ⌝ }
 {
     let found = accept_rows::accept_state(table, state);
     match found {
@@ -233,7 +234,7 @@ fn accepted_then(table: &[u32], state: &[u32]) -> Found
 
 // What the state comes to: 12 for its one record, or one after it, then 2 to 5.
 pub fn state_found(file: File, table: &[u32], state: &[u32]) -> Found
-    ensures { λ r. ⌜ r ≡ stateFound file (now (table .entry)) (now (state .entry)) ⌝ }
+    ensures { λ r. ⌜ r ≡ stateFound file (corridorOf (now (table .entry)) (now (state .entry))) ⌝ }
 {
     match file {
         File::Holds(n) => {

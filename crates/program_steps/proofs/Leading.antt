@@ -6,32 +6,36 @@ use mathlib.Core.List.{List, [], _∷_, _++_, append-assoc}
 use native.Mathlib.Omega.{arith}
 use lib.ListN.{length, drop, drop-of-length-le}
 use lib.Seq.{drop-drop}
+use Rattle.layout.specs.Corridor.{Corridor}
 use Rattle.text_scans.specs.declared.Scan.{Scan}
+use Rattle.period.specs.Sharing.{Sharing}
 use Rattle.program_steps.specs.Demand.{How, later, over, unfit, Followed, follow, runFits, ifFits, followCall, runOf, Leaves}
-use Rattle.program_steps.specs.Steps.{next-chunk, call, Leads}
+use Rattle.program_steps.specs.Steps.{next-chunk, call}
+use Rattle.program_steps.specs.declared.Run.{Run}
 use Rattle.program_steps.specs.declared.Run.the-variants.{On}
+use Rattle.program_steps.specs.Private.{Leads}
 
-module _ (table : List ℕ) (k₀ : ℕ) (scan₀ : Scan) (row₀ state₀ sheet₀ chunk : List ℕ) where
-  abbrev pub LeadsTo : ℕ → Scan → List ℕ → List ℕ → List ℕ → List ℕ → Type 0
-  LeadsTo k scan row state sheet left = Leads table k₀ scan₀ row₀ state₀ sheet₀ chunk [] k scan row state sheet left
+module _ (way : Sharing) (k₀ : ℕ) (scan₀ : Scan) (row₀ : List ℕ) (c₀ : Corridor) (sheet₀ chunk : List ℕ) where
+  abbrev pub LeadsTo : ℕ → Scan → List ℕ → Corridor → List ℕ → List ℕ → Type 0
+  LeadsTo k scan row c sheet left = Leads way k₀ scan₀ row₀ c₀ sheet₀ chunk [] k scan row c sheet left
 
-  pub leads-here : LeadsTo k₀ scan₀ row₀ state₀ sheet₀ chunk
+  pub leads-here : LeadsTo k₀ scan₀ row₀ c₀ sheet₀ chunk
   leads-here = record { lines = []; on = λ more out follows. follows }
 
   -- a call of `follow` that goes on
-  pub call-leads : {k : ℕ} {scan : Scan} {row state sheet : List ℕ} (from : ℕ) → LeadsTo k scan row state sheet (drop from chunk) → (out piece : List ℕ) → piece ≡ drop from chunk → {read k′ at : ℕ} {scan′ : Scan} {row′ state′ sheet′ out′ : List ℕ}
-      → Leaves (followCall table k scan row state sheet out piece) (length piece) out (On read k′ scan′ at) row′ state′ sheet′ out′ → LeadsTo k′ scan′ row′ state′ sheet′ (drop (from + read) chunk)
+  pub call-leads : {k : ℕ} {scan : Scan} {row : List ℕ} {c : Corridor} {sheet : List ℕ} (from : ℕ) → LeadsTo k scan row c sheet (drop from chunk) → (out piece : List ℕ) → piece ≡ drop from chunk → {run : Run} {read k′ at : ℕ} {scan′ : Scan} {row′ : List ℕ} {c′ : Corridor} {sheet′ out′ : List ℕ}
+      → Leaves (followCall way k scan row c sheet out piece) (length piece) out run row′ c′ sheet′ out′ → run ≡ On read k′ scan′ at → LeadsTo k′ scan′ row′ c′ sheet′ (drop (from + read) chunk)
   unfolding runOf
-  call-leads {k} {scan} {row} {state} {sheet} from leads out piece same {read} {k′} {at} {scan′} {row′} {state′} {sheet′} {out′} left =
-      by (runFits table state row sheet out) (same-left .answered) (same-left .leavesRow) (same-left .leavesState) (same-left .leavesSheet)
+  call-leads {k} {scan} {row} {c} {sheet} from leads out piece same {read = read} {k′} {at} {scan′} {row′} {c′} {sheet′} {out′} left told =
+      by (runFits c row sheet out) (same-left .answered) (same-left .leavesRow) (same-left .leavesCorridor) (same-left .leavesSheet)
     where
-      same-left : Leaves (followCall table k scan row state sheet out (drop from chunk)) (length (drop from chunk)) out (On read k′ scan′ at) row′ state′ sheet′ out′
-      same-left = rw same at left
+      same-left : Leaves (followCall way k scan row c sheet out (drop from chunk)) (length (drop from chunk)) out (On read k′ scan′ at) row′ c′ sheet′ out′
+      same-left = rw (same, told) at left
 
       f : Followed
-      f = follow table (length out) k scan row state sheet (drop from chunk)
+      f = follow way (length out) k scan row c sheet (drop from chunk)
 
-      goes : (how : How) → f .how ≡ how → On read k′ scan′ at ≡ runOf how (length (drop from chunk)) (length (f .text)) → LeadsTo k′ scan′ (f .row) (f .state) (f .sheet) (drop (from + read) chunk)
+      goes : (how : How) → f .how ≡ how → On read k′ scan′ at ≡ runOf how (length (drop from chunk)) (length (f .text)) → LeadsTo k′ scan′ (f .row) (f .corridor) (f .sheet) (drop (from + read) chunk)
       goes (later k″ scan″ rest) is e =
           let same-k : k″ ≡ k′ = cc in
           let same-scan : scan″ ≡ scan′ = cc in
@@ -46,14 +50,14 @@ module _ (table : List ℕ) (k₀ : ℕ) (scan₀ : Scan) (row₀ state₀ sheet
       goes over is e = absurd (let z : _≡_ {A = ℕ} 0 1 = cc in omega arith)
       goes unfit is e = absurd (let z : _≡_ {A = ℕ} 0 1 = cc in omega arith)
 
-      by : (fits : Bool) → On read k′ scan′ at ≡ runOf (ifFits fits row state sheet f .how) (length (drop from chunk)) (length (ifFits fits row state sheet f .text)) → row′ ≡ ifFits fits row state sheet f .row
-          → state′ ≡ ifFits fits row state sheet f .state → sheet′ ≡ ifFits fits row state sheet f .sheet → LeadsTo k′ scan′ row′ state′ sheet′ (drop (from + read) chunk)
+      by : (fits : Bool) → On read k′ scan′ at ≡ runOf (ifFits fits row c sheet f .how) (length (drop from chunk)) (length (ifFits fits row c sheet f .text)) → row′ ≡ ifFits fits row c sheet f .row
+          → c′ ≡ ifFits fits row c sheet f .corridor → sheet′ ≡ ifFits fits row c sheet f .sheet → LeadsTo k′ scan′ row′ c′ sheet′ (drop (from + read) chunk)
       by true e r s h = rw (r, s, h) (goes (f .how) refl e)
       by false e r s h = absurd (let z : _≡_ {A = ℕ} 0 1 = cc in omega arith)
 
   -- the chunk is used up
-  pub leads-to-its-end : {k : ℕ} {scan : Scan} {row state sheet : List ℕ} (from : ℕ) → LeadsTo k scan row state sheet (drop from chunk) → length chunk ≤ from → LeadsTo k scan row state sheet []
+  pub leads-to-its-end : {k : ℕ} {scan : Scan} {row : List ℕ} {c : Corridor} {sheet : List ℕ} (from : ℕ) → LeadsTo k scan row c sheet (drop from chunk) → length chunk ≤ from → LeadsTo k scan row c sheet []
   leads-to-its-end from leads past = rw (drop-of-length-le chunk past) at leads
 
-  pub next-chunk-leads : {k : ℕ} {scan : Scan} {row state sheet left : List ℕ} → LeadsTo k scan row state sheet left → Leads table k₀ scan₀ row₀ state₀ sheet₀ [] (chunk ∷ []) k scan row state sheet left
+  pub next-chunk-leads : {k : ℕ} {scan : Scan} {row : List ℕ} {c : Corridor} {sheet left : List ℕ} → LeadsTo k scan row c sheet left → Leads way k₀ scan₀ row₀ c₀ sheet₀ [] (chunk ∷ []) k scan row c sheet left
   next-chunk-leads leads = record { lines = leads .lines; on = λ more out follows. next-chunk (leads .on more out follows) }

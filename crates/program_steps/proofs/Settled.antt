@@ -22,9 +22,9 @@ stop-line-settles κs a y z e f p q = (settled (p .0) (q .0), settled (p .1) (q 
 pub follow-settles : SettlesLists _ follow-kinds.ps follow-kinds.r (List ℕ × List ℕ × List ℕ × List ℕ)
     (λ κs e. (now (e .1 .1 .1 .1 .0), now (e .1 .1 .1 .1 .1 .0), now (e .1 .1 .1 .1 .1 .1 .0), now (e .1 .1 .1 .1 .1 .1 .1 .0))) follow.Learnt
 follow-settles κs a y z e f p q =
-    (settled (p .answered) (q .answered), λ i. (settled (p .leavesState) (q .leavesState) i, settled (p .leavesRow) (q .leavesRow) i, settled (p .leavesSheet) (q .leavesSheet) i, settled (p .writes) (q .writes) i))
+    (settled (p .answered) (q .answered), λ i. (settled (p .leavesCorridor) (q .leavesCorridor) i .state, settled (p .leavesRow) (q .leavesRow) i, settled (p .leavesSheet) (q .leavesSheet) i, settled (p .writes) (q .writes) i))
 
 pub end-settles : SettlesLists _ end-kinds.ps end-kinds.r (List ℕ × List ℕ × List ℕ × List ℕ)
     (λ κs e. (now (e .1 .1 .1 .0), now (e .1 .1 .1 .1 .0), now (e .1 .1 .1 .1 .1 .0), now (e .1 .1 .1 .1 .1 .1 .0))) end.Learnt
 end-settles κs a y z e f p q =
-    (settled (p .answered) (q .answered), λ i. (settled (p .leavesState) (q .leavesState) i, settled (p .leavesRow) (q .leavesRow) i, settled (p .leavesSheet) (q .leavesSheet) i, settled (p .writes) (q .writes) i))
+    (settled (p .answered) (q .answered), λ i. (settled (p .leavesCorridor) (q .leavesCorridor) i .state, settled (p .leavesRow) (q .leavesRow) i, settled (p .leavesSheet) (q .leavesSheet) i, settled (p .writes) (q .writes) i))

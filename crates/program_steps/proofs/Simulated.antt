@@ -9,37 +9,37 @@ use lib.Dec.{eqb}
 use lib.ListN.{length, take}
 use lib.Seq.{sets}
 use Rattle.whole.specs.Search.{pick}
-use Rattle.whole.proofs.Lists.{build-length}
-use Rattle.text_records.specs.Texts.{together}
+use Rattle.whole.proofs.Lists.{zeros-length}
+use Rattle.whole.specs.Lists.{zeros}
+use Rattle.refusals.specs.Checks.{answer}
+use Rattle.layout.specs.Layout.{cells, stateLength, demandLength, tableLength, MOST, WIDTH}
+use Rattle.layout.specs.Corridor.{Corridor, corridorOf, cellsOf}
 use Rattle.text_scans.specs.Scans.{begin}
+use Rattle.text_records.specs.Texts.{together}
 use Rattle.text_records.specs.Reads.{held, numbers}
 use Rattle.text_records.specs.declared.Text.{Text}
 use Rattle.text_records.specs.declared.Text.the-variants as Text
 use Rattle.text_laws.proofs.Accepted.{accepted-count}
-use Rattle.layout.specs.Layout.{cells, stateLength, demandLength}
+use Rattle.accept_rows.specs.Acceptance.{stateChecks}
+use Rattle.period.specs.Sharing.{Sharing}
 use Rattle.program_files.specs.Stops.{broken}
 use Rattle.program_files.specs.Files.{cellsFound, stateFound, acceptedThen}
 use Rattle.program_files.specs.declared.File.{File}
 use Rattle.program_files.specs.declared.File.the-variants.{Holds, BrokenAt, Lost}
+use Rattle.program_files.specs.declared.Found.{Found}
 use Rattle.program_files.specs.declared.Found.the-variants.{Go, Halt}
 use Rattle.program_files.specs.declared.Reading.the-variants.{On}
 use Rattle.program_files.proofs.Finding.{Cells, cells-told, state-told}
 use Rattle.program_steps.specs.Lines.{HEADER}
-use Rattle.refusals.specs.Checks.{answer}
-use Rattle.accept_rows.specs.Acceptance.{stateChecks}
-use Rattle.program_steps.specs.Program.{Given, missing, text, textFile, fileGiven, numbersGiven, zeros, recordsOn, sheetText, demandText, orHalt, simulated}
-use Rattle.program_steps.specs.Steps.{Read, absent, chunks, given, readFile, Writes, cells-stop, state-stop, demand-stop, runs}
+use Rattle.program_steps.specs.Program.{Given, missing, text, textFile, fileGiven, numbersGiven, recordsOn, sheetText, demandText, orHalt, simulated}
+use Rattle.program_steps.specs.Steps.{cellsRead, stateRead, corridorRead, stateAnswer, Chunked, absent, chunks, given, readFile, Writes, cells-stop, state-stop, demand-stop, runs}
 use Rattle.program_steps.proofs.Texts.{file-is-text, pieces-are-whole}
 use Rattle.program_steps.proofs.Sheets.{follows-writes}
 
 -- a file has fewer than 2^64 − 2 bytes: then no count of records or periods comes to its limit
-abbrev pub Short : Read → Type 0
+abbrev pub Short : Chunked → Type 0
 Short absent = Unit {0}
 Short (chunks pieces) = length (together pieces) < 18446744073709551614
-
-zeros-length : (n : ℕ) → length (zeros n) ≡ n
-unfolding zeros
-zeros-length n = build-length n (λ i. 0)
 
 -- numbers stored from a list's start on, where they have room
 sets-after : (x : ℕ) (l xs : List ℕ) (i : ℕ) → sets (x ∷ l) (suc i) xs ≡ x ∷ sets l i xs
@@ -58,7 +58,7 @@ stored-whole (y ∷ l) [] h = absurd (omega arith)
 stored-whole (y ∷ l) (x ∷ xs) h = rw (sets-after x l xs 0) (ap (λ (rest : List ℕ). x ∷ rest) (stored-whole l xs (omega arith)))
 
 -- a file read in chunks is the file that is given
-pub read-is-given : (fields : ℕ) (list : List ℕ) (file : Read) → Short file → readFile fields list file ≡ (fileGiven fields (given file), sets list 0 (numbersGiven fields (given file)))
+pub read-is-given : (fields : ℕ) (list : List ℕ) (file : Chunked) → Short file → readFile fields list file ≡ (fileGiven fields (given file), sets list 0 (numbersGiven fields (given file)))
 unfolding readFile held numbers
 read-is-given fields list absent short = refl
 read-is-given fields list (chunks pieces) short = rw (pieces-are-whole fields (On 0 0 begin) list pieces) (file-is-text fields 0 0 begin list (together pieces) (omega arith))
@@ -74,100 +74,101 @@ holds-numbers fields n (text bytes) e = accepted-count fields bytes n (by (held 
     by Text.TooLong e = absurd (let z : _≡_ {A = ℕ} 0 1 = cc in omega arith)
 
 -- the state's numbers matter only where there is one record of them
-state-found-same : (file : File) (table l m : List ℕ) → (file ≡ Holds 1 → l ≡ m) → stateFound file table l ≡ stateFound file table m
+state-found-same : (file : File) (c d : Corridor) → (file ≡ Holds 1 → c ≡ d) → stateFound file c ≡ stateFound file d
 unfolding stateFound
-state-found-same Lost table l m same = refl
-state-found-same (BrokenAt place) table l m same = refl
-state-found-same (Holds n) table l m same = by (eqb n 1) refl
+state-found-same Lost c d same = refl
+state-found-same (BrokenAt place) c d same = refl
+state-found-same (Holds n) c d same = by (eqb n 1) refl
   where
-    Same : Bool → Type 0
-    Same one =
-        pick (eqb n 0) (Halt (broken 0 1 2)) (pick one (acceptedThen (answer (stateChecks table l))) (Halt (broken 0 2 2)))
-        ≡ pick (eqb n 0) (Halt (broken 0 1 2)) (pick one (acceptedThen (answer (stateChecks table m))) (Halt (broken 0 2 2)))
+    found : Bool → Corridor → Found
+    found one x = pick (eqb n 0) (Halt (broken 0 1 2)) (pick one (acceptedThen (answer (stateChecks x))) (Halt (broken 0 2 2)))
 
-    by : (one : Bool) → eqb n 1 ≡ one → Same one
+    by : (one : Bool) → eqb n 1 ≡ one → found one c ≡ found one d
     by false e = refl
-    by true e = ap (λ (list : List ℕ). pick (eqb n 0) (Halt (broken 0 1 2)) (acceptedThen (answer (stateChecks table list)))) (same (ap Holds (eqb-true n 1 e)))
+    by true e = ap (found true) (same (ap Holds (eqb-true n 1 e)))
 
 -- The cells and the state that the steps go on with.
 
-module _ (cellsFile stateFile : Read) (short : Short cellsFile) (short′ : Short stateFile) where
-  abbrev cellsRead : File × List ℕ
-  cellsRead = readFile 9 (zeros 4608) cellsFile
+module _ (way : Sharing) (cellsFile stateFile : Chunked) (short : Short cellsFile) (short′ : Short stateFile) where
+  abbrev tableGiven : List ℕ
+  tableGiven = numbersGiven WIDTH (given cellsFile)
 
-  cells-same : cellsFound (cellsRead .0) ≡ cellsFound (fileGiven 9 (given cellsFile))
-  cells-same = ap (λ (p : File × List ℕ). cellsFound (p .0)) (read-is-given 9 (zeros 4608) cellsFile short)
+  cells-read : cellsRead cellsFile ≡ (fileGiven WIDTH (given cellsFile), sets (zeros (tableLength MOST)) 0 tableGiven)
+  cells-read = read-is-given WIDTH (zeros (tableLength MOST)) cellsFile short
 
-  module _ (n : ℕ) (go : cellsFound (cellsRead .0) ≡ Go n) where
-    told : Cells (fileGiven 9 (given cellsFile)) n
+  cells-same : cellsFound (cellsRead cellsFile .0) ≡ cellsFound (fileGiven WIDTH (given cellsFile))
+  cells-same = ap (λ (p : File × List ℕ). cellsFound (p .0)) cells-read
+
+  module _ (n : ℕ) (go : cellsFound (cellsRead cellsFile .0) ≡ Go n) where
+    told : Cells (fileGiven WIDTH (given cellsFile)) n
     told = cells-told _ n (sym cells-same ∙ go)
 
-    count : length (numbersGiven 9 (given cellsFile)) ≡ n * 9
-    count = holds-numbers 9 n (given cellsFile) (told .held)
+    count : length tableGiven ≡ n * WIDTH
+    count = holds-numbers WIDTH n (given cellsFile) (told .held)
 
-    table-is : take (9 * n) (cellsRead .1) ≡ numbersGiven 9 (given cellsFile)
+    table-is : take (tableLength n) (cellsRead cellsFile .1) ≡ tableGiven
     table-is =
-        let list = numbersGiven 9 (given cellsFile) in
-        let as-many : 9 * n ≡ length list = omega (arith, count) in
-        let room : length list ≤ length (zeros 4608) = omega (arith, count, told .most, zeros-length 4608) in
-        ap (λ (p : File × List ℕ). take (9 * n) (p .1)) (read-is-given 9 (zeros 4608) cellsFile short)
-        ∙ ap (λ (k : ℕ). take k (sets (zeros 4608) 0 list)) as-many
-        ∙ stored-first (zeros 4608) list room
+        let space = zeros (tableLength MOST) in
+        let as-many : tableLength n ≡ length tableGiven = omega (arith, count) in
+        let room : length tableGiven ≤ length space = omega (arith, count, told .most, zeros-length (tableLength MOST)) in
+        ap (λ (p : File × List ℕ). take (tableLength n) (p .1)) cells-read
+        ∙ ap (λ (k : ℕ). take k (sets space 0 tableGiven)) as-many
+        ∙ stored-first space tableGiven room
 
-    table-cells : cells (numbersGiven 9 (given cellsFile)) ≡ n
+    table-cells : cells tableGiven ≡ n
     table-cells = omega (arith, count)
 
-    abbrev stateRead : File × List ℕ
-    stateRead = readFile (stateLength n) (zeros (stateLength n)) stateFile
+    abbrev corridorGiven : Corridor
+    corridorGiven = corridorOf tableGiven (numbersGiven (stateLength n) (given stateFile))
 
-    state-is : fileGiven (stateLength n) (given stateFile) ≡ Holds 1 → stateRead .1 ≡ numbersGiven (stateLength n) (given stateFile)
-    state-is one =
-        ap (λ (p : File × List ℕ). p .1) (read-is-given (stateLength n) (zeros (stateLength n)) stateFile short′)
-        ∙ stored-whole (zeros (stateLength n)) (numbersGiven (stateLength n) (given stateFile))
-        (omega (arith, holds-numbers (stateLength n) 1 (given stateFile) one, zeros-length (stateLength n)))
+    abbrev corridor : Corridor
+    corridor = corridorRead n cellsFile stateFile
 
-    state-same : stateFound (stateRead .0) (take (9 * n) (cellsRead .1)) (stateRead .1)
-        ≡ stateFound (fileGiven (stateLength n) (given stateFile)) (numbersGiven 9 (given cellsFile)) (numbersGiven (stateLength n) (given stateFile))
+    state-read : stateRead n stateFile ≡ (fileGiven (stateLength n) (given stateFile), sets (zeros (stateLength n)) 0 (corridorGiven .state))
+    state-read = read-is-given (stateLength n) (zeros (stateLength n)) stateFile short′
+
+    corridor-is : fileGiven (stateLength n) (given stateFile) ≡ Holds 1 → corridor ≡ corridorGiven
+    corridor-is one =
+        let space = zeros (stateLength n) in
+        let as-many : length (corridorGiven .state) ≡ length space = omega (arith, holds-numbers (stateLength n) 1 (given stateFile) one, zeros-length (stateLength n)) in
+        let state-is = ap (λ (p : File × List ℕ). p .1) state-read ∙ stored-whole space (corridorGiven .state) as-many in
+        λ i. corridorOf (table-is i) (state-is i)
+
+    state-same : stateAnswer n cellsFile stateFile ≡ stateFound (fileGiven (stateLength n) (given stateFile)) corridorGiven
     state-same =
-        ap (λ (p : File × List ℕ). stateFound (p .0) (take (9 * n) (cellsRead .1)) (stateRead .1)) (read-is-given (stateLength n) (zeros (stateLength n)) stateFile short′)
-        ∙ ap (λ (table : List ℕ). stateFound (fileGiven (stateLength n) (given stateFile)) table (stateRead .1)) table-is
-        ∙ state-found-same (fileGiven (stateLength n) (given stateFile)) (numbersGiven 9 (given cellsFile)) (stateRead .1) (numbersGiven (stateLength n) (given stateFile)) state-is
+        ap (λ (p : File × List ℕ). stateFound (p .0) corridor) state-read
+        ∙ state-found-same (fileGiven (stateLength n) (given stateFile)) corridor corridorGiven corridor-is
 
     -- the program as defined, once the cells and the state are found
-    after-cells : (demandFile : Read) {out : List ℕ} → out ≡ orHalt (stateFound (fileGiven (stateLength n) (given stateFile)) (numbersGiven 9 (given cellsFile)) (numbersGiven (stateLength n) (given stateFile)))
-        (λ one. demandText (numbersGiven 9 (given cellsFile)) (numbersGiven (stateLength n) (given stateFile)) (given demandFile))
-        → HEADER ++ out ≡ simulated (given cellsFile) (given stateFile) (given demandFile)
+    after-cells : (demandFile : Chunked) {out : List ℕ}
+        → out ≡ orHalt (stateFound (fileGiven (stateLength n) (given stateFile)) corridorGiven) (λ one. demandText way corridorGiven (given demandFile))
+        → HEADER ++ out ≡ simulated way (given cellsFile) (given stateFile) (given demandFile)
     unfolding simulated orHalt
     after-cells demandFile e = ap (λ (rest : List ℕ). HEADER ++ rest) (e ∙ rw (sym cells-same ∙ go))
 
-    after-state : (demandFile : Read) (one : ℕ) {out : List ℕ} → stateFound (stateRead .0) (take (9 * n) (cellsRead .1)) (stateRead .1) ≡ Go one
-        → out ≡ demandText (numbersGiven 9 (given cellsFile)) (numbersGiven (stateLength n) (given stateFile)) (given demandFile)
-        → HEADER ++ out ≡ simulated (given cellsFile) (given stateFile) (given demandFile)
+    after-state : (demandFile : Chunked) (one : ℕ) {out : List ℕ} → stateAnswer n cellsFile stateFile ≡ Go one
+        → out ≡ demandText way corridorGiven (given demandFile)
+        → HEADER ++ out ≡ simulated way (given cellsFile) (given stateFile) (given demandFile)
     unfolding orHalt
     after-state demandFile one found e = after-cells demandFile (e ∙ rw (sym state-same ∙ found))
 
     -- the demand under the lists that were read is the demand under the numbers that are given
-    demand-same : (one : ℕ) (bytes : List ℕ) → stateFound (stateRead .0) (take (9 * n) (cellsRead .1)) (stateRead .1) ≡ Go one
-        → sheetText 1 (take (9 * n) (cellsRead .1)) (stateRead .1) (recordsOn (demandLength (cells (take (9 * n) (cellsRead .1)))) begin (zeros (stateLength n)) bytes)
-        ≡ demandText (numbersGiven 9 (given cellsFile)) (numbersGiven (stateLength n) (given stateFile)) (text bytes)
+    demand-same : (one : ℕ) (bytes : List ℕ) → stateAnswer n cellsFile stateFile ≡ Go one
+        → sheetText way 1 corridor (recordsOn (demandLength (cellsOf corridor)) begin (zeros (demandLength n)) bytes) ≡ demandText way corridorGiven (text bytes)
     unfolding demandText
     demand-same one bytes found =
-        let list = numbersGiven 9 (given cellsFile) in
-        let state = numbersGiven (stateLength n) (given stateFile) in
-        let same = read-is-given (stateLength n) (zeros (stateLength n)) stateFile short′ in
-        let held = sym (ap (λ (p : File × List ℕ). p .0) same) ∙ state-told (stateRead .0) (take (9 * n) (cellsRead .1)) (stateRead .1) one found .held in
-        ap (λ (table : List ℕ). sheetText 1 table (stateRead .1) (recordsOn (demandLength (cells table)) begin (zeros (stateLength n)) bytes)) table-is
-        ∙ ap (λ (now : List ℕ). sheetText 1 list now (recordsOn (demandLength (cells list)) begin (zeros (stateLength n)) bytes)) (state-is held)
-        ∙ ap (λ (m : ℕ). sheetText 1 list state (recordsOn (demandLength (cells list)) begin (zeros (stateLength m)) bytes)) (sym table-cells)
+        let held = sym (ap (λ (p : File × List ℕ). p .0) state-read) ∙ state-told (stateRead n stateFile .0) corridor one found .held in
+        ap (λ (c : Corridor). sheetText way 1 c (recordsOn (demandLength (cellsOf c)) begin (zeros (demandLength n)) bytes)) (corridor-is held)
+        ∙ ap (λ (m : ℕ). sheetText way 1 corridorGiven (recordsOn (demandLength (cellsOf corridorGiven)) begin (zeros (demandLength m)) bytes)) (sym table-cells)
 
--- what the steps write is what the program is defined to write
-pub steps-write-what-is-simulated : {cellsFile stateFile demandFile : Read} {out : List ℕ} → Short cellsFile → Short stateFile → Short demandFile → Writes cellsFile stateFile demandFile out
-    → out ≡ simulated (given cellsFile) (given stateFile) (given demandFile)
+-- what the steps write is what the program is defined to write, under any way of sharing
+pub steps-write-what-is-simulated : {way : Sharing} {cellsFile stateFile demandFile : Chunked} {out : List ℕ} → Short cellsFile → Short stateFile → Short demandFile → Writes way cellsFile stateFile demandFile out
+    → out ≡ simulated way (given cellsFile) (given stateFile) (given demandFile)
 unfolding simulated orHalt demandText
-steps-write-what-is-simulated {cellsFile} {stateFile} s s′ s″ (cells-stop stop e) = rw (sym (cells-same cellsFile stateFile s s′) ∙ e)
-steps-write-what-is-simulated {cellsFile} {stateFile} {demandFile} s s′ s″ (state-stop n stop go e) =
-    after-cells cellsFile stateFile s s′ n go demandFile (rw (sym (state-same cellsFile stateFile s s′ n go) ∙ e))
-steps-write-what-is-simulated {cellsFile} {stateFile} s s′ s″ (demand-stop n one go found) = after-state cellsFile stateFile s s′ n go absent one found refl
-steps-write-what-is-simulated {cellsFile} {stateFile} s s′ s″ (runs {pieces} {out} n one go found follows) =
-    after-state cellsFile stateFile s s′ n go (chunks pieces) one found
-    (follows-writes _ follows (omega arith) ∙ demand-same cellsFile stateFile s s′ n go one (together pieces) found)
+steps-write-what-is-simulated {way} {cellsFile} {stateFile} s s′ s″ (cells-stop stop e) = rw (sym (cells-same way cellsFile stateFile s s′) ∙ e)
+steps-write-what-is-simulated {way} {cellsFile} {stateFile} {demandFile} s s′ s″ (state-stop n stop go e) =
+    after-cells way cellsFile stateFile s s′ n go demandFile (rw (sym (state-same way cellsFile stateFile s s′ n go) ∙ e))
+steps-write-what-is-simulated {way} {cellsFile} {stateFile} s s′ s″ (demand-stop n one go found) = after-state way cellsFile stateFile s s′ n go absent one found refl
+steps-write-what-is-simulated {way} {cellsFile} {stateFile} s s′ s″ (runs {pieces} {out} n one go found follows) =
+    after-state way cellsFile stateFile s s′ n go (chunks pieces) one found
+    (follows-writes way follows (omega arith) ∙ demand-same way cellsFile stateFile s s′ n go one (together pieces) found)

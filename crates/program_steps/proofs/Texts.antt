@@ -11,13 +11,13 @@ use lib.ListN.{length, set, length-set}
 use lib.Seq.{sets, set-out}
 use Rattle.whole.specs.Search.{pick}
 use Rattle.text_digits.specs.Lines.{CR}
-use Rattle.text_records.specs.Texts.{together}
 use Rattle.text_scans.specs.Scans.{begin, feed, untouched, lastField, ended}
-use Rattle.text_records.specs.Reads.{textFrom, textOn, numbersFrom, numbersOn, textAtEnd}
 use Rattle.text_scans.specs.declared.Scan.{Scan}
 use Rattle.text_scans.specs.declared.Step.{Step}
 use Rattle.text_scans.specs.declared.Step.the-variants.{More, Field, Complete, Breaks}
 use Rattle.text_scans.specs.declared.End.the-variants.{Nothing, Cut}
+use Rattle.text_records.specs.Texts.{together}
+use Rattle.text_records.specs.Reads.{textFrom, textOn, numbersFrom, numbersOn, textAtEnd}
 use Rattle.text_records.specs.declared.Text.{Text}
 use Rattle.text_records.specs.declared.Text.the-variants as Text
 use Rattle.program_files.specs.Files as files

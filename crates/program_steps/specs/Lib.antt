@@ -3,3 +3,4 @@ pub mod Turns
 pub mod Demand
 pub mod Program
 pub mod Steps
+pub mod Private

@@ -6,12 +6,12 @@ use lib.ListN.{length}
 use lib.Seq.{sets}
 use Rattle.whole.specs.Lists.{build}
 use Rattle.whole.specs.Search.{pick}
+use Rattle.layout.specs.Layout.{entryQueue, countAt}
+use Rattle.layout.specs.Sheet.{flowIn, offFlowIn, onFlowIn, modeIn}
 use Rattle.text_digits.specs.Lines.{LF, CR, lineText}
 use Rattle.text_digits.specs.declared.Written.{Written}
 use Rattle.text_digits.specs.declared.Written.the-variants.{To, NoRoom}
 use Rattle.text_records.specs.Texts.{textOf}
-use Rattle.layout.specs.Layout.{entryQueue, countAt}
-use Rattle.layout.specs.Sheet.{flowIn, offFlowIn, onFlowIn, modeIn}
 use Rattle.program_files.specs.declared.Stop.{Stop}
 
 -- the header: k,i,n,f,s,r,mode
@@ -39,9 +39,13 @@ stopRecord stop = stop .period ∷ stop .place ∷ stop .number ∷ stop .file �
 unfoldable pub stopText : Stop → List ℕ
 stopText stop = lineText (stopRecord stop)
 
+-- the most bytes of a line: seven numbers of at most 20 digits, each with a comma, and its end
+abbrev pub lineRoom : ℕ
+lineRoom = 149
+
 -- a line at the start of an output, where that has room for the longest
 unfoldable pub lineWritten : List ℕ → List ℕ → Written
-lineWritten out text = pick (leb 149 (length out)) (To (length text)) NoRoom
+lineWritten out text = pick (leb lineRoom (length out)) (To (length text)) NoRoom
 
 unfoldable pub afterLine : List ℕ → List ℕ → List ℕ
-afterLine out text = pick (leb 149 (length out)) (sets out 0 text) out
+afterLine out text = pick (leb lineRoom (length out)) (sets out 0 text) out

@@ -3,40 +3,47 @@ ghost use mathlib.Core.Path.{_≡_};
 ghost use Prim.Native.Nat.{_-_, _≤_};
 ghost use lib.Dec.{leb};
 ghost use lib.ListN.{length};
-ghost use Rattle.layout.specs.Layout.{cells};
-ghost use Rattle.program_steps.specs.Turns.{Ready};
+ghost use Rattle.layout.specs.Layout.{MOST};
+ghost use Rattle.layout.specs.Corridor.{corridorOf};
+ghost use Rattle.period.specs.Sharing.{asymmetric};
 ghost use Rattle.program_steps.specs.Demand.{linesRoom, follow, followEnd, runFits, followCall, endCall, Leaves};
+ghost use Rattle.program_steps.specs.Private.{ReadyAt};
 use crate::Run;
 use crate::Turn;
+use crate::lines::LINE_ROOM;
 use crate::turns::last_read;
 use crate::turns::turn;
 use crate::turns::turn_of;
 use crate::turns::written_to;
 use layout::cells;
+use layout::demand_length;
+use layout::sheet::sheet_length;
 use program_files::counted;
 use refusals::Answer;
 use text_scans::Scan;
 
 // Whether the lines of a period of n cells have room after a position.
 fn has_room(size: usize, at: usize, n: usize) -> bool
-    requires { ⌜ n ≤ 512 ⌝ }
+    requires { ⌜ n ≤ MOST ⌝ }
     ensures { λ r. ⌜ r ≡ leb (linesRoom n) (size - at) ⌝ }
 {
     if size < at {
         return false;
     }
-    149 * (n + 1) <= size - at
+    LINE_ROOM * (n + 1) <= size - at
 }
 
 // Whether the lists are those of a run.
 fn run_fits(table: &[u32], state: &[u32], row: &[u32], sheet: &[u32], out: &[u8]) -> bool
-    ensures { λ r. ⌜ r ≡ runFits (now (table .entry)) (now (state .entry)) (now (row .entry)) (now (sheet .entry)) (now (out .entry)) ⌝ }
+    ensures { λ r. ⌜ r ≡ runFits (corridorOf (now (table .entry)) (now (state .entry))) (now (row .entry)) (now (sheet .entry)) (now (out .entry)) ⌝ }
 {
     let accepted = accept_rows::accept_state(table, state);
     let n = cells(table);
     match accepted {
         Answer::Accepted => {
-            (row.len() == 2 * n + 1) & (sheet.len() == 4 * n + 1) & has_room(out.len(), 0, n)
+            (row.len() == demand_length(n))
+                & (sheet.len() == sheet_length(n))
+                & has_room(out.len(), 0, n)
         }
         Answer::Refused(_) => false,
     }
@@ -60,9 +67,8 @@ fn follow_run(
     sheet: &mut [u32],
     out: &mut [u8],
 ) -> Run
-    requires { ⌜ Ready (now table) (now state) (now row) (now sheet) ⌝ }
-    requires { ⌜ linesRoom (cells (now table)) ≤ length (now out) ⌝ }
-    ensures { λ r. ⌜ Leaves (follow (now (table .entry)) (length (now (out .entry))) k scan (now (row .entry)) (now (state .entry)) (now (sheet .entry)) (now (chunk .entry))) (length (now (chunk .entry))) (now (out .entry)) r (now (row .exit)) (now (state .exit)) (now (sheet .exit)) (now (out .exit)) ⌝ }
+    requires { ⌜ ReadyAt (corridorOf (now table) (now state)) (now row) (now sheet) (now out) 0 ⌝ }
+    ensures { λ r. ⌜ Leaves (follow asymmetric (length (now (out .entry))) k scan (now (row .entry)) (corridorOf (now (table .entry)) (now (state .entry))) (now (sheet .entry)) (now (chunk .entry))) (length (now (chunk .entry))) (now (out .entry)) r (now (row .exit)) (corridorOf (now (table .entry)) (now (state .exit))) (now (sheet .exit)) (now (out .exit)) ⌝ }
 {
     let n = cells(table);
     let mut k = k;
@@ -100,7 +106,7 @@ pub fn follow(
     sheet: &mut [u32],
     out: &mut [u8],
 ) -> Run
-    ensures { λ r. ⌜ Leaves (followCall (now (table .entry)) k scan (now (row .entry)) (now (state .entry)) (now (sheet .entry)) (now (out .entry)) (now (chunk .entry))) (length (now (chunk .entry))) (now (out .entry)) r (now (row .exit)) (now (state .exit)) (now (sheet .exit)) (now (out .exit)) ⌝ }
+    ensures { λ r. ⌜ Leaves (followCall asymmetric k scan (now (row .entry)) (corridorOf (now (table .entry)) (now (state .entry))) (now (sheet .entry)) (now (out .entry)) (now (chunk .entry))) (length (now (chunk .entry))) (now (out .entry)) r (now (row .exit)) (corridorOf (now (table .entry)) (now (state .exit))) (now (sheet .exit)) (now (out .exit)) ⌝ }
 {
     if !run_fits(table, state, row, sheet, out) {
         return Run::Unfit;
@@ -118,9 +124,8 @@ fn end_run(
     sheet: &mut [u32],
     out: &mut [u8],
 ) -> Run
-    requires { ⌜ Ready (now table) (now state) (now row) (now sheet) ⌝ }
-    requires { ⌜ linesRoom (cells (now table)) ≤ length (now out) ⌝ }
-    ensures { λ r. ⌜ Leaves (followEnd (now (table .entry)) k scan (now (row .entry)) (now (state .entry)) (now (sheet .entry))) 0 (now (out .entry)) r (now (row .exit)) (now (state .exit)) (now (sheet .exit)) (now (out .exit)) ⌝ }
+    requires { ⌜ ReadyAt (corridorOf (now table) (now state)) (now row) (now sheet) (now out) 0 ⌝ }
+    ensures { λ r. ⌜ Leaves (followEnd asymmetric k scan (now (row .entry)) (corridorOf (now (table .entry)) (now (state .entry))) (now (sheet .entry))) 0 (now (out .entry)) r (now (row .exit)) (corridorOf (now (table .entry)) (now (state .exit))) (now (sheet .exit)) (now (out .exit)) ⌝ }
 {
     let end = text_records::finish(scan, row);
     let turn = turn_of(last_read(end), k, table, state, row, sheet, out, 0);
@@ -137,7 +142,7 @@ pub fn end(
     sheet: &mut [u32],
     out: &mut [u8],
 ) -> Run
-    ensures { λ r. ⌜ Leaves (endCall (now (table .entry)) k scan (now (row .entry)) (now (state .entry)) (now (sheet .entry)) (now (out .entry))) 0 (now (out .entry)) r (now (row .exit)) (now (state .exit)) (now (sheet .exit)) (now (out .exit)) ⌝ }
+    ensures { λ r. ⌜ Leaves (endCall asymmetric k scan (now (row .entry)) (corridorOf (now (table .entry)) (now (state .entry))) (now (sheet .entry)) (now (out .entry))) 0 (now (out .entry)) r (now (row .exit)) (corridorOf (now (table .entry)) (now (state .exit))) (now (sheet .exit)) (now (out .exit)) ⌝ }
 {
     if !run_fits(table, state, row, sheet, out) {
         return Run::Unfit;

@@ -1,5 +1,5 @@
 // The steps of the run program: how the demand is followed, what is refused and in which order, and every byte that is written; the
-// cells and the state are read in `files`. They work on lists and values, and a file may come in chunks of any size; the program opens
+// cells and the state are read in `program_files`. They work on lists and values, and a file may come in chunks of any size; the program opens
 // files and moves bytes.
 pub mod demand;
 pub mod lines;

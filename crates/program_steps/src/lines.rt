@@ -1,18 +1,17 @@
 // The lines of the flow sheet, into an output buffer that has room for them.
 ghost use mathlib.Core.Path.{_≡_};
-ghost use Prim.Native.Nat.{ℕ, _+_, _*_, _≤_};
+ghost use Prim.Native.Nat.{_+_, _≤_};
 ghost use lib.ListN.{length};
-ghost use lib.Seq.{sets};
-ghost use Rattle.whole.specs.Lists.{build};
-ghost use Rattle.text_digits.specs.Lines.{digitsOf, lineText};
-ghost use Rattle.text_records.specs.Texts.{textOf};
-ghost use Rattle.layout.specs.Layout.{stateLength};
-ghost use Rattle.layout.specs.Sheet.{sheetLength};
-ghost use Rattle.program_steps.specs.Lines.{HEADER, entryRecord, cellRecord, periodText, stopText, lineWritten, afterLine};
+ghost use Rattle.text_digits.specs.Lines.{lineText};
+ghost use Rattle.program_steps.specs.Lines.{lineRoom, HEADER, entryRecord, periodText, stopText, lineWritten, afterLine};
+ghost use Rattle.program_steps.specs.Private.{Put, PutLine, PutDigits, PutCell, PutCells, LineFits, EntryFits, CellFits, CellsFit, PeriodFits};
 use layout::sheet::*;
 use layout::*;
 use program_files::Stop;
 use text_digits::Written;
+
+// The most bytes of a line: seven numbers of at most 20 digits, each with a comma, and its end.
+pub(crate) const LINE_ROOM: usize = 149;
 
 fn wide(number: u32) -> u64
     ensures { λ r. ⌜ r ≡ number ⌝ }
@@ -29,8 +28,7 @@ fn large(number: usize) -> u64
 // Copies bytes to a position of the output.
 fn put_bytes(bytes: &[u8], out: &mut [u8], at: usize) -> usize
     requires { ⌜ at + length (now bytes) ≤ length (now out) ⌝ }
-    ensures answer { λ r. ⌜ r ≡ at + length (now (bytes .entry)) ⌝ }
-    ensures stores { λ _. ⌜ now (out .exit) ≡ sets (now (out .entry)) at (now (bytes .entry)) ⌝ }
+    ensures { λ r. ⌜ Put (now (bytes .entry)) (now (out .entry)) at r (now (out .exit)) ⌝ }
 {
     let mut i = 0;
     while i < bytes.len() {
@@ -45,18 +43,16 @@ pub fn header(out: &mut [u8]) -> Written
     ensures answer { λ r. ⌜ r ≡ lineWritten (now (out .entry)) HEADER ⌝ }
     ensures stores { λ _. ⌜ now (out .exit) ≡ afterLine (now (out .entry)) HEADER ⌝ }
 {
-    if out.len() < 149 {
+    if out.len() < LINE_ROOM {
         return Written::NoRoom;
     }
     Written::To(put_bytes(b"k,i,n,f,s,r,mode\r\n", out, 0))
 }
 
-// A line of seven numbers: at most 149 bytes, since each has at most 20 digits and a comma, and the end two.
+// A line of seven numbers.
 fn put_line(numbers: &[u64], out: &mut [u8], at: usize) -> usize
-    requires { ⌜ (length (now numbers) ≡ 7) × (at + 149 ≤ length (now out)) ⌝ }
-    ensures answer { λ r. ⌜ r ≡ at + length (lineText (now (numbers .entry))) ⌝ }
-    ensures within { λ r. ⌜ r ≤ at + 149 ⌝ }
-    ensures stores { λ _. ⌜ now (out .exit) ≡ sets (now (out .entry)) at (lineText (now (numbers .entry))) ⌝ }
+    requires { ⌜ LineFits (now numbers) (now out) at ⌝ }
+    ensures { λ r. ⌜ PutLine (lineText (now (numbers .entry))) (now (out .entry)) at r (now (out .exit)) ⌝ }
 {
     let written = text_digits::write_record(numbers, out, at);
     match written {
@@ -67,9 +63,8 @@ fn put_line(numbers: &[u64], out: &mut [u8], at: usize) -> usize
 
 // A refusal's line.
 pub(crate) fn put_stop(stop: Stop, out: &mut [u8], at: usize) -> usize
-    requires { ⌜ at + 149 ≤ length (now out) ⌝ }
-    ensures answer { λ r. ⌜ r ≡ at + length (stopText stop) ⌝ }
-    ensures stores { λ _. ⌜ now (out .exit) ≡ sets (now (out .entry)) at (stopText stop) ⌝ }
+    requires { ⌜ at + lineRoom ≤ length (now out) ⌝ }
+    ensures { λ r. ⌜ Put (stopText stop) (now (out .entry)) at r (now (out .exit)) ⌝ }
 {
     let line = [
         large(stop.period),
@@ -88,7 +83,7 @@ pub fn stop_line(stop: Stop, out: &mut [u8]) -> Written
     ensures answer { λ r. ⌜ r ≡ lineWritten (now (out .entry)) (stopText stop) ⌝ }
     ensures stores { λ _. ⌜ now (out .exit) ≡ afterLine (now (out .entry)) (stopText stop) ⌝ }
 {
-    if out.len() < 149 {
+    if out.len() < LINE_ROOM {
         return Written::NoRoom;
     }
     Written::To(put_stop(stop, out, 0))
@@ -96,10 +91,8 @@ pub fn stop_line(stop: Stop, out: &mut [u8]) -> Written
 
 // The entry's line.
 fn put_entry(k: usize, state: &[u32], sheet: &[u32], out: &mut [u8], at: usize) -> usize
-    requires { ⌜ (1 ≤ length (now state)) × (1 ≤ length (now sheet)) × (at + 149 ≤ length (now out)) ⌝ }
-    ensures answer { λ r. ⌜ r ≡ at + length (lineText (entryRecord k (now (state .entry)) (now (sheet .entry)))) ⌝ }
-    ensures within { λ r. ⌜ r ≤ at + 149 ⌝ }
-    ensures stores { λ _. ⌜ now (out .exit) ≡ sets (now (out .entry)) at (lineText (entryRecord k (now (state .entry)) (now (sheet .entry)))) ⌝ }
+    requires { ⌜ EntryFits (now state) (now sheet) (now out) at ⌝ }
+    ensures { λ r. ⌜ PutLine (lineText (entryRecord k (now (state .entry)) (now (sheet .entry)))) (now (out .entry)) at r (now (out .exit)) ⌝ }
 {
     let line = [
         large(k),
@@ -116,9 +109,7 @@ fn put_entry(k: usize, state: &[u32], sheet: &[u32], out: &mut [u8], at: usize) 
 // The digits of a period's number, at the start of a space for them.
 fn period_digits(k: usize, space: &mut [u8]) -> usize
     requires { ⌜ 20 ≤ length (now space) ⌝ }
-    ensures answer { λ r. ⌜ r ≡ length (digitsOf k) ⌝ }
-    ensures within { λ r. ⌜ r ≤ 20 ⌝ }
-    ensures stores { λ _. ⌜ now (space .exit) ≡ sets (now (space .entry)) 0 (digitsOf k) ⌝ }
+    ensures { λ r. ⌜ PutDigits k (now (space .entry)) r (now (space .exit)) ⌝ }
 {
     let written = text_digits::write_decimal(large(k), space, 0);
     match written {
@@ -137,10 +128,8 @@ fn put_cell(
     out: &mut [u8],
     at: usize,
 ) -> usize
-    requires { ⌜ (length (now period) ≤ 20) × (i + 1 ≤ n) × (n ≤ 512) × (length (now state) ≡ stateLength n) × (length (now sheet) ≡ sheetLength n) × (at + 149 ≤ length (now out)) ⌝ }
-    ensures answer { λ r. ⌜ ((k : ℕ) → now (period .entry) ≡ digitsOf k → r ≡ at + length (lineText (cellRecord k n (now (state .entry)) (now (sheet .entry)) i))) ⌝ }
-    ensures within { λ r. ⌜ r ≤ at + 149 ⌝ }
-    ensures stores { λ _. ⌜ ((k : ℕ) → now (period .entry) ≡ digitsOf k → now (out .exit) ≡ sets (now (out .entry)) at (lineText (cellRecord k n (now (state .entry)) (now (sheet .entry)) i))) ⌝ }
+    requires { ⌜ CellFits (now period) n i (now state) (now sheet) (now out) at ⌝ }
+    ensures { λ r. ⌜ PutCell (now (period .entry)) n i (now (state .entry)) (now (sheet .entry)) (now (out .entry)) at r (now (out .exit)) ⌝ }
 {
     let to = put_bytes(period, out, at);
     let written = text_digits::write_rest(
@@ -168,9 +157,8 @@ fn put_cells(
     out: &mut [u8],
     at: usize,
 ) -> usize
-    requires { ⌜ (length (now period) ≤ 20) × (n ≤ 512) × (length (now state) ≡ stateLength n) × (length (now sheet) ≡ sheetLength n) × (at + 149 * n ≤ length (now out)) ⌝ }
-    ensures answer { λ r. ⌜ ((k : ℕ) → now (period .entry) ≡ digitsOf k → r ≡ at + length (textOf (build n (cellRecord k n (now (state .entry)) (now (sheet .entry)))))) ⌝ }
-    ensures stores { λ _. ⌜ ((k : ℕ) → now (period .entry) ≡ digitsOf k → now (out .exit) ≡ sets (now (out .entry)) at (textOf (build n (cellRecord k n (now (state .entry)) (now (sheet .entry)))))) ⌝ }
+    requires { ⌜ CellsFit (now period) n (now state) (now sheet) (now out) at ⌝ }
+    ensures { λ r. ⌜ PutCells (now (period .entry)) n (now (state .entry)) (now (sheet .entry)) (now (out .entry)) at r (now (out .exit)) ⌝ }
 {
     let mut to = at;
     let mut i = 0;
@@ -190,9 +178,8 @@ pub(crate) fn put_period(
     out: &mut [u8],
     at: usize,
 ) -> usize
-    requires { ⌜ (n ≤ 512) × (length (now state) ≡ stateLength n) × (length (now sheet) ≡ sheetLength n) × (at + 149 * (n + 1) ≤ length (now out)) ⌝ }
-    ensures answer { λ r. ⌜ r ≡ at + length (periodText k n (now (state .entry)) (now (sheet .entry))) ⌝ }
-    ensures stores { λ _. ⌜ now (out .exit) ≡ sets (now (out .entry)) at (periodText k n (now (state .entry)) (now (sheet .entry))) ⌝ }
+    requires { ⌜ PeriodFits n (now state) (now sheet) (now out) at ⌝ }
+    ensures { λ r. ⌜ Put (periodText k n (now (state .entry)) (now (sheet .entry))) (now (out .entry)) at r (now (out .exit)) ⌝ }
 {
     let to = put_entry(k, state, sheet, out, at);
     let mut space: [u8; 20] = [0; 20];

@@ -1,10 +1,11 @@
 // One demand record at a time: read, checked, run and written.
 ghost use mathlib.Core.Path.{_≡_};
-ghost use Prim.Native.Nat.{_+_, _*_, _≤_};
 ghost use lib.ListN.{length, drop};
 ghost use Rattle.text_records.specs.Reads.{readOn, rowOn};
-ghost use Rattle.layout.specs.Layout.{cells};
-ghost use Rattle.program_steps.specs.Turns.{didRow, lastRead, did, rowAnswer, Turned, writtenTo, Ready};
+ghost use Rattle.layout.specs.Corridor.{corridorOf};
+ghost use Rattle.period.specs.Sharing.{asymmetric};
+ghost use Rattle.program_steps.specs.Turns.{didRow, lastRead, did, demandAnswer};
+ghost use Rattle.program_steps.specs.Private.{Turned, writtenTo, ReadyAt};
 use crate::Turn;
 use crate::lines::put_period;
 use crate::lines::put_stop;
@@ -27,17 +28,18 @@ fn run_row(
     out: &mut [u8],
     at: usize,
 ) -> Turn
-    requires { ⌜ Ready (now table) (now state) (now row) (now sheet) ⌝ }
-    requires { ⌜ at + 149 * (cells (now table) + 1) ≤ length (now out) ⌝ }
-    ensures { λ r. ⌜ Turned (didRow (rowAnswer (now (table .entry)) (now (state .entry)) (now (row .entry))) next) k (now (table .entry)) (now (state .entry)) (now (row .entry)) (now (sheet .entry)) (now (out .entry)) at r (now (state .exit)) (now (sheet .exit)) (now (out .exit)) ⌝ }
+    requires { ⌜ ReadyAt (corridorOf (now table) (now state)) (now row) (now sheet) (now out) at ⌝ }
+    ensures { λ r. ⌜ Turned asymmetric (didRow (demandAnswer (corridorOf (now (table .entry)) (now (state .entry))) (now (row .entry))) next) k (corridorOf (now (table .entry)) (now (state .entry))) (now (row .entry)) (now (sheet .entry)) (now (out .entry)) at r (corridorOf (now (table .entry)) (now (state .exit))) (now (sheet .exit)) (now (out .exit)) ⌝ }
 {
-    let checked = accept_rows::accept_demand(table, state, row);
-    let answer = period::run_row(checked, table, state, row, sheet);
+    let answer = accept_rows::accept_demand(table, state, row);
     match answer {
-        Answer::Accepted => Turn::Period {
-            next,
-            at: put_period(k, cells(table), state, sheet, out, at),
-        },
+        Answer::Accepted => {
+            period::run_accepted(table, state, row, sheet);
+            Turn::Period {
+                next,
+                at: put_period(k, cells(table), state, sheet, out, at),
+            }
+        }
         Answer::Refused(refusal) => Turn::Over(put_stop(refused_in(k, refusal), out, at)),
     }
 }
@@ -64,9 +66,8 @@ pub(crate) fn turn_of(
     out: &mut [u8],
     at: usize,
 ) -> Turn
-    requires { ⌜ Ready (now table) (now state) (now row) (now sheet) ⌝ }
-    requires { ⌜ at + 149 * (cells (now table) + 1) ≤ length (now out) ⌝ }
-    ensures { λ r. ⌜ Turned (did read (rowAnswer (now (table .entry)) (now (state .entry)) (now (row .entry)))) k (now (table .entry)) (now (state .entry)) (now (row .entry)) (now (sheet .entry)) (now (out .entry)) at r (now (state .exit)) (now (sheet .exit)) (now (out .exit)) ⌝ }
+    requires { ⌜ ReadyAt (corridorOf (now table) (now state)) (now row) (now sheet) (now out) at ⌝ }
+    ensures { λ r. ⌜ Turned asymmetric (did read (demandAnswer (corridorOf (now (table .entry)) (now (state .entry))) (now (row .entry)))) k (corridorOf (now (table .entry)) (now (state .entry))) (now (row .entry)) (now (sheet .entry)) (now (out .entry)) at r (corridorOf (now (table .entry)) (now (state .exit))) (now (sheet .exit)) (now (out .exit)) ⌝ }
 {
     match read {
         Read::Part(next) => Turn::Part { scan: next, at },
@@ -88,10 +89,9 @@ pub(crate) fn turn(
     out: &mut [u8],
     at: usize,
 ) -> Turn
-    requires { ⌜ Ready (now table) (now state) (now row) (now sheet) ⌝ }
-    requires { ⌜ at + 149 * (cells (now table) + 1) ≤ length (now out) ⌝ }
+    requires { ⌜ ReadyAt (corridorOf (now table) (now state)) (now row) (now sheet) (now out) at ⌝ }
     ensures reads { λ _. ⌜ now (row .exit) ≡ rowOn (length (now (row .entry))) scan (now (row .entry)) (drop from (now (chunk .entry))) ⌝ }
-    ensures does { λ r. ⌜ Turned (did (readOn (length (now (row .entry))) from scan (drop from (now (chunk .entry)))) (rowAnswer (now (table .entry)) (now (state .entry)) (now (row .exit)))) k (now (table .entry)) (now (state .entry)) (now (row .exit)) (now (sheet .entry)) (now (out .entry)) at r (now (state .exit)) (now (sheet .exit)) (now (out .exit)) ⌝ }
+    ensures does { λ r. ⌜ Turned asymmetric (did (readOn (length (now (row .entry))) from scan (drop from (now (chunk .entry)))) (demandAnswer (corridorOf (now (table .entry)) (now (state .entry))) (now (row .exit)))) k (corridorOf (now (table .entry)) (now (state .entry))) (now (row .exit)) (now (sheet .entry)) (now (out .entry)) at r (corridorOf (now (table .entry)) (now (state .exit))) (now (sheet .exit)) (now (out .exit)) ⌝ }
 {
     let read = text_records::read_record(chunk, from, scan, row);
     turn_of(read, k, table, state, row, sheet, out, at)

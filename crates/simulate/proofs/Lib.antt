@@ -1,2 +1,3 @@
+pub mod Spaces
 pub mod Reading
 pub mod Going

@@ -1,12 +1,24 @@
 // The run program: `cells.csv`, `state.csv` and `demand.csv` of the folder it is run in become the flow sheet on standard
 // output. This file opens files and moves bytes: what is read, what is refused, in which order, and every byte that is
-// written is decided by the functions of `files` and `steps`, and what one call answers is handed to the next.
+// written is decided by the functions of `program_files` and `program_steps`, and what one call answers is handed to the next.
 ghost use mathlib.Core.Path.{_≡_};
 ghost use Prim.Native.Nat.{_≤_};
 ghost use lib.ListN.{length};
 ghost use mathlib.Core.List.{[]};
 ghost use Rattle.text_scans.specs.Scans.{begin};
-ghost use Rattle.simulate.specs.Loops.{SomeRead, FileRead, Goes, GoesOn};
+ghost use Rattle.layout.specs.Layout.{MOST};
+ghost use Rattle.layout.specs.Corridor.{corridorOf};
+ghost use Rattle.period.specs.Sharing.{asymmetric};
+ghost use Rattle.simulate.specs.Private.{SomeRead, FileRead, Goes, GoesOn};
+use layout::demand_length;
+use layout::demand_space;
+use layout::sheet::sheet_length;
+use layout::sheet::sheet_space;
+use layout::state_length;
+use layout::state_space;
+use layout::table_length;
+use layout::table_space;
+use layout::width;
 use program_files::File;
 use program_files::Found;
 use program_files::Reading;
@@ -36,27 +48,6 @@ pub enum Next {
     Shut,
     // The lists are not those of a run, which never comes to be.
     Unfit,
-}
-
-// A table of 512 cells.
-fn table_space() -> [u32; 4608]
-    ensures { λ r. ⌜ 4608 ≡ length r ⌝ }
-{
-    [0; 4608]
-}
-
-// A state or a demand row of 512 cells.
-fn row_space() -> [u32; 1025]
-    ensures { λ r. ⌜ 1025 ≡ length r ⌝ }
-{
-    [0; 1025]
-}
-
-// A sheet of 512 cells.
-fn sheet_space() -> [u32; 2049]
-    ensures { λ r. ⌜ 2049 ≡ length r ⌝ }
-{
-    [0; 2049]
 }
 
 // More than the lines of a period of 512 cells take.
@@ -166,7 +157,7 @@ fn follow_chunk(
     sheet: &mut [u32],
     out: &mut [u8],
 ) -> Next
-    ensures { λ r. ⌜ Goes r (now (table .entry)) k scan (now (row .entry)) (now (state .entry)) (now (sheet .entry)) (now (chunk .entry)) [] (now (row .exit)) (now (state .exit)) (now (sheet .exit)) (now (out .exit)) ⌝ }
+    ensures { λ r. ⌜ Goes r asymmetric k scan (now (row .entry)) (corridorOf (now (table .entry)) (now (state .entry))) (now (sheet .entry)) (now (chunk .entry)) [] (now (row .exit)) (corridorOf (now (table .entry)) (now (state .exit))) (now (sheet .exit)) (now (out .exit)) ⌝ }
 {
     let mut k = k;
     let mut scan = scan;
@@ -204,7 +195,7 @@ fn end_demand(
     sheet: &mut [u32],
     out: &mut [u8],
 ) -> Next
-    ensures { λ r. ⌜ Goes r (now (table .entry)) k scan (now (row .entry)) (now (state .entry)) (now (sheet .entry)) [] [] (now (row .exit)) (now (state .exit)) (now (sheet .exit)) (now (out .exit)) ⌝ }
+    ensures { λ r. ⌜ Goes r asymmetric k scan (now (row .entry)) (corridorOf (now (table .entry)) (now (state .entry))) (now (sheet .entry)) [] [] (now (row .exit)) (corridorOf (now (table .entry)) (now (state .exit))) (now (sheet .exit)) (now (out .exit)) ⌝ }
 {
     let run = demand::end(k, scan, table, state, row, sheet, out);
     match run {
@@ -230,7 +221,7 @@ fn follow_some(
     sheet: &mut [u32],
     out: &mut [u8],
 ) -> Next
-    ensures { λ r. ⌜ GoesOn r (now (table .entry)) k scan (now (row .entry)) (now (state .entry)) (now (sheet .entry)) (now (row .exit)) (now (state .exit)) (now (sheet .exit)) (now (out .exit)) ⌝ }
+    ensures { λ r. ⌜ GoesOn r asymmetric k scan (now (row .entry)) (corridorOf (now (table .entry)) (now (state .entry))) (now (sheet .entry)) (now (row .exit)) (corridorOf (now (table .entry)) (now (state .exit))) (now (sheet .exit)) (now (out .exit)) ⌝ }
 {
     let mut buffer = io::large_buffer();
     let got = libc::read(fd, &mut buffer);
@@ -254,7 +245,7 @@ fn run_demand(
     sheet: &mut [u32],
     out: &mut [u8],
 ) -> Next
-    ensures { λ r. ⌜ GoesOn r (now (table .entry)) 1 begin (now (row .entry)) (now (state .entry)) (now (sheet .entry)) (now (row .exit)) (now (state .exit)) (now (sheet .exit)) (now (out .exit)) ⌝ }
+    ensures { λ r. ⌜ GoesOn r asymmetric 1 begin (now (row .entry)) (corridorOf (now (table .entry)) (now (state .entry))) (now (sheet .entry)) (now (row .exit)) (corridorOf (now (table .entry)) (now (state .exit))) (now (sheet .exit)) (now (out .exit)) ⌝ }
 {
     let mut k = 1;
     let mut scan = text_scans::begin();
@@ -297,7 +288,7 @@ fn end_run(next: Next, out: &mut [u8]) {
 
 // The demand, under an accepted table of n cells and an accepted state.
 fn with_state(n: usize, table: &[u32], state: &mut [u32], out: &mut [u8])
-    requires { ⌜ n ≤ 512 ⌝ }
+    requires { ⌜ n ≤ MOST ⌝ }
 {
     let fd = os::open_read(b"demand.csv");
     if fd < 0 {
@@ -305,14 +296,14 @@ fn with_state(n: usize, table: &[u32], state: &mut [u32], out: &mut [u8])
         halt(program_files::demand_lost(0), out);
         return;
     }
-    let mut row = row_space();
+    let mut row = demand_space();
     let mut sheet = sheet_space();
     let next = run_demand(
         fd,
         table,
         state,
-        &mut row[..2 * n + 1],
-        &mut sheet[..4 * n + 1],
+        &mut row[..demand_length(n)],
+        &mut sheet[..sheet_length(n)],
         out,
     );
     libc::close(fd);
@@ -321,11 +312,12 @@ fn with_state(n: usize, table: &[u32], state: &mut [u32], out: &mut [u8])
 
 // The state, under a table of n cells.
 fn with_cells(n: usize, table: &[u32], out: &mut [u8])
-    requires { ⌜ n ≤ 512 ⌝ }
+    requires { ⌜ n ≤ MOST ⌝ }
 {
-    let mut space = row_space();
-    let state: &mut [u32] = &mut space[..2 * n + 1];
-    let file = read_file(b"state.csv", 2 * n + 1, state);
+    let mut space = state_space();
+    let fields = state_length(n);
+    let state: &mut [u32] = &mut space[..fields];
+    let file = read_file(b"state.csv", fields, state);
     let found = program_files::state_found(file, table, state);
     match found {
         Found::Go(_) => with_state(n, table, state, out),
@@ -341,10 +333,10 @@ fn main() {
     if !pass_line(header, &out) {
         return;
     }
-    let file = read_file(b"cells.csv", 9, &mut table);
+    let file = read_file(b"cells.csv", width(), &mut table);
     let found = program_files::cells_found(file);
     match found {
-        Found::Go(n) => with_cells(n, &table[..9 * n], &mut out),
+        Found::Go(n) => with_cells(n, &table[..table_length(n)], &mut out),
         Found::Halt(stop) => halt(stop, &mut out),
     }
 }

@@ -3,6 +3,7 @@ use borrow.Author.Needs.{needs}
 use mathlib.Core.Path.{_≡_, ap}
 use mathlib.Core.Bool.{true, false}
 use Rattle.whole.specs.Search.{within}
+use Rattle.layout.specs.Layout.{MOST}
 use Rattle.program_files.specs.Files.{cellsFound}
 use Rattle.program_files.specs.declared.Found.the-variants.{Halt}
 use Rattle.program_files.proofs.cells_found.Statement.{statement}
@@ -11,13 +12,13 @@ use Rattle.program_files.proofs.cells_found.Tie as tie
 returns : tie.Need-returns
 unfolding cellsFound
 returns c =
-    let fits : within 1 512 (c .before .before .file .given .0 .0) ≡ true = c .if1 .taken in
+    let fits : within 1 MOST (c .before .before .file .given .0 .0) ≡ true = c .if1 .taken in
     rw (c .before .before .file .given .1) (rw fits)
 
 returns-2 : tie.Need-returns-2
 unfolding cellsFound
 returns-2 c =
-    let over : within 1 512 (c .before .before .before .file .given .0 .0) ≡ false = c .before .if1 .left in
+    let over : within 1 MOST (c .before .before .before .file .given .0 .0) ≡ false = c .before .if1 .left in
     rw (c .before .before .before .file .given .1) (rw over (ap Halt (c .refused-in .ensures)))
 
 returns-3 : tie.Need-returns-3

@@ -17,11 +17,19 @@ abbrev μ-loop : tie.MeasureT-loop
 loop-holds : tie.Need-loop-holds Inv-loop μ-loop
 loop-holds c = (search needs, refl, refl)
 
+abbrev turning : tie.After-slice-known2 Inv-loop μ-loop → tie.At-loop Inv-loop μ-loop
+turning c = c .before .before .before .before .before .before
+
 loop-again : tie.Need-loop-again Inv-loop μ-loop
-loop-again c = (omega arith, one-less _ _ _ _ _ _ _ _ _ (search needs) (c .before .before .read-byte .ensures .0) (c .before .before .read-byte .ensures .1) (c .before .before .before .before .before .before .loop .inv .1), omega arith)
+loop-again c =
+    let byte = c .before .before .read-byte .ensures in
+    (omega arith, one-less _ _ _ _ _ _ _ _ _ (search needs) (byte .0) (byte .1) (turning c .loop .inv .1), omega arith)
 
 returns : tie.Need-returns Inv-loop μ-loop
-returns c = let done = none-left (c .before .before .before .before .args .fields) (c .before .before .before .before .args .chunk .now) (c .before .loop .i) _ _ _ _ (search needs) (c .before .loop .inv .1) in (ap (λ p. p .0) done, ap (λ p. p .1) done)
+returns c =
+    let given = c .before .before .before .before .args in
+    let done = none-left (given .fields) (given .chunk .now) (c .before .loop .i) _ _ _ _ (search needs) (c .before .loop .inv .1) in
+    (ap (λ p. p .0) done, ap (λ p. p .1) done)
 
 pub read-on-spec : {M : Type 1} → statement M
 read-on-spec =

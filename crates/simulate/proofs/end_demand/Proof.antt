@@ -4,14 +4,19 @@ use Rattle.simulate.proofs.Going.{end-closes}
 use Rattle.simulate.proofs.end_demand.Statement.{statement}
 use Rattle.simulate.proofs.end_demand.Tie as tie
 
+abbrev ended : tie.After-slice-known8 → tie.After-end
+ended c = c .before .before .before .before .before .before .before .before
+
 returns : tie.Need-returns
-returns c = rw (c .pass-last .ensures) (end-closes _ _ _ _ _ _ _ (rw (c .before .before .before .run .given .1) at (c .before .before .before .before .before .before .before .before .before .before .before .before .before .end .ensures)))
+returns c =
+    let told = c .before .before .before in
+    rw (c .pass-last .ensures) (end-closes _ _ _ _ _ _ _ (ended (told .before .before) .end .ensures) (told .run .given .1))
 
 returns-2 : tie.Need-returns-2
-returns-2 c = end-closes _ _ _ _ _ _ _ (rw (c .enum-told .given .1) at (c .before .before .before .before .before .before .before .before .before .before .end .ensures))
+returns-2 c = end-closes _ _ _ _ _ _ _ (ended (c .before .before) .end .ensures) (c .enum-told .given .1)
 
 returns-3 : tie.Need-returns-3
-returns-3 c = end-closes _ _ _ _ _ _ _ (rw (c .enum-told2 .given .1) at (c .before .before .before .before .before .before .before .before .before .before .end .ensures))
+returns-3 c = end-closes _ _ _ _ _ _ _ (ended (c .before .before) .end .ensures) (c .enum-told2 .given .1)
 
 pub end-demand-spec : {M : Type 1} → statement M
 end-demand-spec =

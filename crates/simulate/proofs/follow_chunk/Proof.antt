@@ -1,10 +1,12 @@
 -- `simulate::follow_chunk` meets its contract. Assumes nothing.
-use Prim.Native.Nat.{_-_}
-use mathlib.Core.Path.{_≡_, refl}
+use Prim.Native.Nat.{_+_, _-_, _<_, _≤_}
+use mathlib.Core.Path.{_≡_, refl, sym, _∙_}
 use native.Mathlib.Omega.{arith}
 use borrow.Author.Needs.{needs}
 use borrow.Rule.Slice.PartAt.{part-to-end}
 use lib.ListN.{length, drop, length-drop}
+use Rattle.layout.specs.Corridor.{corridorOf}
+use Rattle.period.specs.Sharing.{asymmetric}
 use Rattle.program_steps.proofs.Sheets.{call-reads}
 use Rattle.program_steps.proofs.Leading.{LeadsTo, leads-here, call-leads, leads-to-its-end}
 use Rattle.simulate.proofs.Going.{call-closes}
@@ -13,7 +15,8 @@ use Rattle.simulate.proofs.follow_chunk.Tie as tie
 
 abbrev Inv-loop : tie.InvT-loop
 Inv-loop chunk k table state₀ row₀ sheet₀ out₀ k₀ scan₀ from₀ state row sheet out k' scan from =
-    LeadsTo table k scan₀ row₀ state₀ sheet₀ chunk k' scan row state sheet (drop from chunk) × (length state ≡ length state₀) × (length row ≡ length row₀) × (length sheet ≡ length sheet₀) × (length out ≡ length out₀)
+    LeadsTo asymmetric k scan₀ row₀ (corridorOf table state₀) sheet₀ chunk k' scan row (corridorOf table state) sheet (drop from chunk)
+    × (length state ≡ length state₀) × (length row ≡ length row₀) × (length sheet ≡ length sheet₀) × (length out ≡ length out₀)
 
 abbrev μ-loop : tie.MeasureT-loop
 μ-loop chunk k table state₀ row₀ sheet₀ out₀ k₀ scan₀ from₀ state row sheet out k' scan from = length chunk - from
@@ -21,20 +24,56 @@ abbrev μ-loop : tie.MeasureT-loop
 loop-holds : tie.Need-loop-holds Inv-loop μ-loop
 loop-holds c = (leads-here _ _ _ _ _ _ _, refl, refl, refl, refl)
 
+-- where a call has followed, the loop turned, and the start
+abbrev followed : tie.After-slice-known8 Inv-loop μ-loop → tie.After-follow Inv-loop μ-loop
+followed c = c .before .before .before .before .before .before .before .before
+
+abbrev turning : tie.After-follow Inv-loop μ-loop → tie.At-loop Inv-loop μ-loop
+turning f = f .before .before .before .before .before .before .before
+
+abbrev begin : tie.After-follow Inv-loop μ-loop → tie.Start Inv-loop μ-loop
+begin f = turning f .before .before .before .before .before .before .before
+
+-- a call that goes on, and what it has read
+abbrev told : tie.Else1 Inv-loop μ-loop → tie.After-run Inv-loop μ-loop
+told c = c .before .before .before .before
+
+abbrev called : tie.Else1 Inv-loop μ-loop → tie.After-follow Inv-loop μ-loop
+called c = followed (told c .before .before)
+
+reads : (c : tie.Else1 Inv-loop μ-loop)
+    → (0 < told c .run .given .0 .0) × (turning (called c) .loop .from + told c .run .given .0 .0 ≤ length (begin (called c) .args .chunk .now))
+reads c =
+    let f = called c in
+    let chunk = begin f .args .chunk .now in
+    let from = turning f .loop .from in
+    let read = call-reads _ _ _ _ _ _ _ _ _ (sym (told c .run .given .1) ∙ f .follow .ensures .answered) (rw (part-to-end chunk from) (omega (arith, length-drop from chunk))) in
+    (read .0, omega (arith, read .1))
+
 add-from : tie.Need-add-from Inv-loop μ-loop
-add-from c = let reads = call-reads _ _ _ _ _ _ _ _ _ (rw (c .before .before .before .before .run .given .1) at (c .before .before .before .before .before .before .before .before .before .before .before .before .before .before .follow .ensures .answered)) (rw (part-to-end (c .before .before .before .before .before .before .before .before .before .before .before .before .before .before .before .before .before .before .before .before .before .before .before .before .before .before .before .before .args .chunk .now) (c .before .before .before .before .before .before .before .before .before .before .before .before .before .before .before .before .before .before .before .before .before .loop .from)) (omega (arith, length-drop (c .before .before .before .before .before .before .before .before .before .before .before .before .before .before .before .before .before .before .before .before .before .loop .from) (c .before .before .before .before .before .before .before .before .before .before .before .before .before .before .before .before .before .before .before .before .before .before .before .before .before .before .before .before .args .chunk .now)))) in omega arith
+add-from c = omega (arith, reads c .1)
 
 loop-less : tie.Need-loop-less Inv-loop μ-loop
-loop-less c = let reads = call-reads _ _ _ _ _ _ _ _ _ (rw (c .before .before .before .before .run .given .1) at (c .before .before .before .before .before .before .before .before .before .before .before .before .before .before .follow .ensures .answered)) (rw (part-to-end (c .before .before .before .before .before .before .before .before .before .before .before .before .before .before .before .before .before .before .before .before .before .before .before .before .before .before .before .before .args .chunk .now) (c .before .before .before .before .before .before .before .before .before .before .before .before .before .before .before .before .before .before .before .before .before .loop .from)) (omega (arith, length-drop (c .before .before .before .before .before .before .before .before .before .before .before .before .before .before .before .before .before .before .before .before .before .loop .from) (c .before .before .before .before .before .before .before .before .before .before .before .before .before .before .before .before .before .before .before .before .before .before .before .before .before .before .before .before .args .chunk .now)))) in omega arith
+loop-less c = omega (arith, reads c .0, reads c .1)
 
 loop-again : tie.Need-loop-again Inv-loop μ-loop
-loop-again c = (call-leads _ _ _ _ _ _ _ _ (c .before .before .before .before .before .before .before .before .before .before .before .before .before .before .before .before .before .before .before .before .before .loop .inv .0) _ _ (part-to-end (c .before .before .before .before .before .before .before .before .before .before .before .before .before .before .before .before .before .before .before .before .before .before .before .before .before .before .before .before .args .chunk .now) (c .before .before .before .before .before .before .before .before .before .before .before .before .before .before .before .before .before .before .before .before .before .loop .from)) (rw (c .before .before .before .before .run .given .1) at (c .before .before .before .before .before .before .before .before .before .before .before .before .before .before .follow .ensures)), omega arith, omega arith, omega arith, omega arith)
+loop-again c =
+    let f = called c in
+    let left = part-to-end (begin f .args .chunk .now) (turning f .loop .from) in
+    (call-leads _ _ _ _ _ _ _ _ (turning f .loop .inv .0) _ _ left (f .follow .ensures) (told c .run .given .1), omega arith, omega arith, omega arith, omega arith)
 
 returns-2 : tie.Need-returns-2 Inv-loop μ-loop
-returns-2 c = rw (c .pass-last .ensures) (call-closes _ _ _ _ _ _ _ (c .before .before .before .before .before .before .before .before .before .before .before .before .before .before .before .before .before .before .before .before .loop .inv .0) _ _ (part-to-end (c .before .before .before .before .before .before .before .before .before .before .before .before .before .before .before .before .before .before .before .before .before .before .before .before .before .before .before .args .chunk .now) (c .before .before .before .before .before .before .before .before .before .before .before .before .before .before .before .before .before .before .before .before .loop .from)) (rw (c .before .before .before .run2 .given .1) at (c .before .before .before .before .before .before .before .before .before .before .before .before .before .follow .ensures)))
+returns-2 c =
+    let over = c .before .before .before in
+    let f = followed (over .before .before) in
+    let left = part-to-end (begin f .args .chunk .now) (turning f .loop .from) in
+    rw (c .pass-last .ensures) (call-closes _ _ _ _ _ _ _ (turning f .loop .inv .0) _ _ left (f .follow .ensures) (over .run2 .given .1))
 
 returns-3 : tie.Need-returns-3 Inv-loop μ-loop
-returns-3 c = call-closes _ _ _ _ _ _ _ (c .before .before .before .before .before .before .before .before .before .before .before .before .before .before .before .before .before .loop .inv .0) _ _ (part-to-end (c .before .before .before .before .before .before .before .before .before .before .before .before .before .before .before .before .before .before .before .before .before .before .before .before .args .chunk .now) (c .before .before .before .before .before .before .before .before .before .before .before .before .before .before .before .before .before .loop .from)) (rw (c .enum-told .given .1) at (c .before .before .before .before .before .before .before .before .before .before .follow .ensures))
+returns-3 c =
+    let f = followed (c .before .before) in
+    let left = part-to-end (begin f .args .chunk .now) (turning f .loop .from) in
+    call-closes _ _ _ _ _ _ _ (turning f .loop .inv .0) _ _ left (f .follow .ensures) (c .enum-told .given .1)
 
 returns-4 : tie.Need-returns-4 Inv-loop μ-loop
 returns-4 c = leads-to-its-end _ _ _ _ _ _ _ _ (c .before .loop .inv .0) (c .loop-test .left)

@@ -13,7 +13,9 @@ returns-2 : tie.Need-returns-2
 returns-2 c = record { pieces = []; goes = c .before .before .before .before .before .before .before .before .end-demand .ensures }
 
 returns-3 : tie.Need-returns-3
-returns-3 c = chunk-goes (c .before .before .before .before .before .before .before .before .follow-chunk .result) _ (c .before .before .before .before .before .before .before .before .follow-chunk .ensures)
+returns-3 c =
+    let followed = c .before .before .before .before .before .before .before .before .follow-chunk in
+    chunk-goes (followed .result) _ (followed .ensures)
 
 pub follow-some-spec : {M : Type 1} → statement M
 follow-some-spec =

@@ -16,11 +16,25 @@ abbrev μ-loop : tie.MeasureT-loop
 loop-holds : tie.Need-loop-holds Inv-loop μ-loop
 loop-holds c = (rw (c .start .ensures) (stands-first _ _), refl)
 
+abbrev read : tie.After-slice-known2 Inv-loop μ-loop → tie.After-read-some Inv-loop μ-loop
+read c = c .before .before
+
+abbrev turning : tie.After-read-some Inv-loop μ-loop → tie.At-loop Inv-loop μ-loop
+turning r = r .before .before .before
+
 loop-again : tie.Need-loop-again Inv-loop μ-loop
-loop-again c = (read-then _ (c .before .before .before .before .before .before .before .before .loop .inv .0) (rw (c .before .got .given .1) at (c .before .before .before .before .before .read-some .ensures)), omega arith)
+loop-again c =
+    let got = c .before in
+    let r = read (got .before .before) in
+    (read-then _ (turning r .loop .inv .0) (r .read-some .ensures) (got .got .given .1), omega arith)
 
 returns : tie.Need-returns Inv-loop μ-loop
-returns c = read-to-its-end _ (rw (rw (c .before .before .before .before .enum-told .given .1) at (c .before .before .before .before .before .before .before .before .read-some .ensures)) (c .before .before .before .before .before .before .before .before .before .before .before .loop .inv .0)) (c .before .before .read-end .result) (c .before .before .read-end .ensures .0) (c .before .before .read-end .ensures .1)
+returns c =
+    let ended = c .before .before in
+    let told = ended .before .before in
+    let r = read (told .before .before) in
+    let end = ended .read-end in
+    read-to-its-end _ (turning r .loop .inv .0) _ (r .read-some .ensures) (told .enum-told .given .1) (end .result) (end .ensures .0) (end .ensures .1)
 
 pub read-all-spec : {M : Type 1} → statement M
 read-all-spec =

@@ -1,6 +1,6 @@
 -- `program_steps::demand::has_room` meets its contract. Assumes nothing.
-use Rattle.program_steps.proofs.Calls.{no-room}
 use borrow.Author.Needs.{needs}
+use Rattle.program_steps.proofs.Calls.{no-room}
 use Rattle.program_steps.proofs.demand.has_room.Statement.{statement}
 use Rattle.program_steps.proofs.demand.has_room.Tie as tie
 

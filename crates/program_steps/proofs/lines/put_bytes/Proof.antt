@@ -19,10 +19,21 @@ loop-holds : tie.Need-loop-holds Inv-loop μ-loop
 loop-holds c = (search needs, none-copied (c .args .bytes .now) (c .args .out .now) (c .args .at), refl)
 
 loop-again : tie.Need-loop-again Inv-loop μ-loop
-loop-again c = (omega arith, one-copied (c .before .before .before .args .bytes .now) (c .before .before .loop .out) (c .before .before .before .args .at) (c .before .before .loop .i) (search needs) ∙ c .before .before .loop .inv .1, omega (arith, length-set (c .before .before .loop .out) (c .before .before .before .args .at + c .before .before .loop .i) (getD (c .before .before .before .args .bytes .now) (c .before .before .loop .i) 0)))
+loop-again c =
+    let now = c .before .before .loop in
+    let given = c .before .before .before .args in
+    let byte = getD (given .bytes .now) (now .i) 0 in
+    let copied = one-copied (given .bytes .now) (now .out) (given .at) (now .i) (search needs) ∙ now .inv .1 in
+    (omega arith, copied, omega (arith, length-set (now .out) (given .at + now .i) byte))
 
 returns : tie.Need-returns Inv-loop μ-loop
-returns c = (omega arith, sym (all-copied (c .before .before .args .bytes .now) (c .before .loop .out) (c .before .before .args .at) (c .before .loop .i) (search needs)) ∙ c .before .loop .inv .1)
+returns c =
+    let now = c .before .loop in
+    let given = c .before .before .args in
+    record {
+      ends = omega arith;
+      stores = sym (all-copied (given .bytes .now) (now .out) (given .at) (now .i) (search needs)) ∙ now .inv .1;
+    }
 
 pub put-bytes-spec : {M : Type 1} → statement M
 put-bytes-spec =

@@ -9,7 +9,7 @@ turn-of-requires : tie.Need-turn-of-requires
 turn-of-requires c κs =
     let read = c .before .before .before .before .before .before in
     let start = read .before .before .before .before .before .before .before .before in
-    (still (start .pre .0) (read .read-record .kept .1 .1 .1 .0) refl refl, start .pre .1)
+    record { ready = still (start .pre .ready) (read .read-record .kept .1 .1 .1 .0) refl refl; room = start .pre .room }
 
 returns : tie.Need-returns
 returns c =

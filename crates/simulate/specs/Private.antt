@@ -1,3 +1,4 @@
+-- Cited by private contracts and proofs alone: no public promise rests on this file.
 -- What the loops of system calls keep. No contract says which bytes a read brings; these say that the steps take them one after the other, each
 -- from what the last one left.
 use Prim.Native.Nat.{ℕ}
@@ -5,13 +6,16 @@ use mathlib.Core.Path.{_≡_}
 use mathlib.Core.Bool.{false}
 use mathlib.Core.List.{List, []}
 use lib.Seq.{sets}
+use Rattle.layout.specs.Corridor.{Corridor}
 use Rattle.text_scans.specs.declared.Scan.{Scan}
+use Rattle.period.specs.Sharing.{Sharing}
 use Rattle.program_files.specs.Files.{fileOn}
-use Rattle.program_steps.specs.Demand.{over, unfit, Followed, silent, follow, followEnd, runFits}
-use Rattle.program_steps.specs.Steps.{chunks, readFile, Leads}
 use Rattle.program_files.specs.declared.Reading.{Reading}
 use Rattle.program_files.specs.declared.File.{File}
 use Rattle.program_files.specs.declared.File.the-variants as File
+use Rattle.program_steps.specs.Demand.{over, unfit, Followed, silent, follow, followEnd, runFits}
+use Rattle.program_steps.specs.Steps.{chunks, readFile}
+use Rattle.program_steps.specs.Private.{Leads}
 use Rattle.simulate.specs.declared.Got.{Got}
 use Rattle.simulate.specs.declared.Got.the-variants as Got
 use Rattle.simulate.specs.declared.Next.{Next}
@@ -40,37 +44,37 @@ FileRead (File.BrokenAt place) fields list list′ = ChunksRead fields list (Fil
 FileRead File.Lost fields list list′ = Unit {0}
 
 -- the last call for the demand: a record is refused, or the demand has ended; or the lists are not those of a run, and stay as they are
-pub data LastCall (table : List ℕ) (k : ℕ) (scan : Scan) (row state sheet left out : List ℕ) (f : Followed) : Next → Type 0 where
-  refuses : (room : ℕ) → f ≡ follow table room k scan row state sheet left → f .how ≡ over → LastCall table k scan row state sheet left out f Over
-  ends : left ≡ [] → f ≡ followEnd table k scan row state sheet → LastCall table k scan row state sheet left out f Over
-  unfits : runFits table state row sheet out ≡ false → f ≡ silent unfit row state sheet → LastCall table k scan row state sheet left out f Unfit
+pub data LastCall (way : Sharing) (k : ℕ) (scan : Scan) (row : List ℕ) (c : Corridor) (sheet left out : List ℕ) (f : Followed) : Next → Type 0 where
+  refuses : (room : ℕ) → f ≡ follow way room k scan row c sheet left → f .how ≡ over → LastCall way k scan row c sheet left out f Over
+  ends : left ≡ [] → f ≡ followEnd way k scan row c sheet → LastCall way k scan row c sheet left out f Over
+  unfits : runFits c row sheet out ≡ false → f ≡ silent unfit row c sheet → LastCall way k scan row c sheet left out f Unfit
 
 -- the calls lead to the last one; its lines stand at the start of the output
-pub record Closes (next : Next) (table : List ℕ) (k : ℕ) (scan : Scan) (row state sheet left : List ℕ) (pieces : List (List ℕ)) (row′ state′ sheet′ out′ : List ℕ) : Type 0 where
+pub record Closes (next : Next) (way : Sharing) (k : ℕ) (scan : Scan) (row : List ℕ) (c : Corridor) (sheet left : List ℕ) (pieces : List (List ℕ)) (row′ : List ℕ) (c′ : Corridor) (sheet′ out′ : List ℕ) : Type 0 where
   pub k₁ : ℕ
   pub scan₁ : Scan
   pub row₁ : List ℕ
-  pub state₁ : List ℕ
+  pub c₁ : Corridor
   pub sheet₁ : List ℕ
   pub left₁ : List ℕ
   pub out₁ : List ℕ
-  pub leads : Leads table k scan row state sheet left pieces k₁ scan₁ row₁ state₁ sheet₁ left₁
+  pub leads : Leads way k scan row c sheet left pieces k₁ scan₁ row₁ c₁ sheet₁ left₁
   pub f : Followed
-  pub last : LastCall table k₁ scan₁ row₁ state₁ sheet₁ left₁ out₁ f next
+  pub last : LastCall way k₁ scan₁ row₁ c₁ sheet₁ left₁ out₁ f next
   pub leavesRow : row′ ≡ f .row
-  pub leavesState : state′ ≡ f .state
+  pub leavesCorridor : c′ ≡ f .corridor
   pub leavesSheet : sheet′ ≡ f .sheet
   pub writes : out′ ≡ sets out₁ 0 (f .text)
 
 -- how the demand goes on over these chunks
-abbrev pub Goes : Next → List ℕ → ℕ → Scan → List ℕ → List ℕ → List ℕ → List ℕ → List (List ℕ) → List ℕ → List ℕ → List ℕ → List ℕ → Type 0
-Goes (On k′ scan′) table k scan row state sheet left pieces row′ state′ sheet′ out′ = Leads table k scan row state sheet left pieces k′ scan′ row′ state′ sheet′ []
-Goes Over table k scan row state sheet left pieces row′ state′ sheet′ out′ = Closes Over table k scan row state sheet left pieces row′ state′ sheet′ out′
-Goes Lost table k scan row state sheet left pieces row′ state′ sheet′ out′ = (row′ ≡ row) × (state′ ≡ state) × (sheet′ ≡ sheet)
-Goes Shut table k scan row state sheet left pieces row′ state′ sheet′ out′ = Unit {0}
-Goes Unfit table k scan row state sheet left pieces row′ state′ sheet′ out′ = Closes Unfit table k scan row state sheet left pieces row′ state′ sheet′ out′
+abbrev pub Goes : Next → Sharing → ℕ → Scan → List ℕ → Corridor → List ℕ → List ℕ → List (List ℕ) → List ℕ → Corridor → List ℕ → List ℕ → Type 0
+Goes (On k′ scan′) way k scan row c sheet left pieces row′ c′ sheet′ out′ = Leads way k scan row c sheet left pieces k′ scan′ row′ c′ sheet′ []
+Goes Over way k scan row c sheet left pieces row′ c′ sheet′ out′ = Closes Over way k scan row c sheet left pieces row′ c′ sheet′ out′
+Goes Lost way k scan row c sheet left pieces row′ c′ sheet′ out′ = (row′ ≡ row) × (c′ ≡ c) × (sheet′ ≡ sheet)
+Goes Shut way k scan row c sheet left pieces row′ c′ sheet′ out′ = Unit {0}
+Goes Unfit way k scan row c sheet left pieces row′ c′ sheet′ out′ = Closes Unfit way k scan row c sheet left pieces row′ c′ sheet′ out′
 
 -- and over the chunks that reads bring
-pub record GoesOn (next : Next) (table : List ℕ) (k : ℕ) (scan : Scan) (row state sheet row′ state′ sheet′ out′ : List ℕ) : Type 0 where
+pub record GoesOn (next : Next) (way : Sharing) (k : ℕ) (scan : Scan) (row : List ℕ) (c : Corridor) (sheet row′ : List ℕ) (c′ : Corridor) (sheet′ out′ : List ℕ) : Type 0 where
   pub pieces : List (List ℕ)
-  pub goes : Goes next table k scan row state sheet [] pieces row′ state′ sheet′ out′
+  pub goes : Goes next way k scan row c sheet [] pieces row′ c′ sheet′ out′
