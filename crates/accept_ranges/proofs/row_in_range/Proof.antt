@@ -23,7 +23,13 @@ returns c =
     let at-x = at-c .before .before .before in
     let at-on = at-x .before .before .before in
     let row = at-on .before .before .before .before .before .args .row in
-    nine-same (at-on .before .before .before .before .within .ensures) (at-on .before .before .before .within2 .ensures) (at-on .before .before .within3 .ensures) (at-on .before .within4 .ensures) (at-on .within5 .ensures) (same-bounds (row .x) (at-x .within6 .ensures) (at-x .before .before .with-ramp .ensures) (at-x .before .with-ramp2 .ensures)) (same-bounds (row .c) (at-c .within7 .ensures) (at-c .before .before .with-ramp3 .ensures) (at-c .before .with-ramp4 .ensures)) (at-off .within8 .ensures) (same-bounds (row .b) (c .within9 .ensures) refl (c .before .with-ramp5 .ensures))
+    let at-jam = at-on .before in
+    nine-same (at-jam .before .before .before .within .ensures) (at-jam .before .before .within2 .ensures) (at-jam .before .within3 .ensures)
+    (at-jam .within4 .ensures) (at-on .within5 .ensures)
+    (same-bounds (row .x) (at-x .within6 .ensures) (at-x .before .before .with-ramp .ensures) (at-x .before .with-ramp2 .ensures))
+    (same-bounds (row .c) (at-c .within7 .ensures) (at-c .before .before .with-ramp3 .ensures) (at-c .before .with-ramp4 .ensures))
+    (at-off .within8 .ensures)
+    (same-bounds (row .b) (c .within9 .ensures) refl (c .before .with-ramp5 .ensures))
 
 pub row-in-range-spec : {M : Type 1} → statement M
 row-in-range-spec =

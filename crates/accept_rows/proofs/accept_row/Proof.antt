@@ -28,7 +28,8 @@ returns-2 c =
 demand-numbers-requires : tie.Need-demand-numbers-requires
 demand-numbers-requires c κs =
     let lists = c .before .before .before .before .before .before .before .before .args in
-    row-lengths (corridorOf (lists .table .now) (lists .state .now)) (lists .demand .now) (sym (c .before .before .before .before .row-lengths-fit .ensures) ∙ not-false _ (c .before .before .before .if1 .left))
+    let fit = c .before .before .before in
+    row-lengths (corridorOf (lists .table .now) (lists .state .now)) (lists .demand .now) (sym (fit .before .row-lengths-fit .ensures) ∙ not-false _ (fit .if1 .left))
 
 returns-3 : tie.Need-returns-3
 returns-3 c =

@@ -10,7 +10,9 @@ returns : tie.Need-returns
 returns c = lengths-fail _ (ap₂ (λ a b. a && b) (c .before .before .table-length-fits .ensures) (c .before .table-length-fits2 .ensures)) (c .if1 .taken)
 
 returns-2 : tie.Need-returns-2
-returns-2 c = lengths-fit (ap₂ (λ a b. a && b) (c .before .before .before .table-length-fits .ensures) (c .before .before .table-length-fits2 .ensures)) (c .before .if1 .left) (c .both-tables .ensures)
+returns-2 c =
+    let told = c .before .before in
+    lengths-fit (ap₂ (λ a b. a && b) (told .before .table-length-fits .ensures) (told .table-length-fits2 .ensures)) (c .before .if1 .left) (c .both-tables .ensures)
 
 pub accept-both-spec : {M : Type 1} → statement M
 accept-both-spec =

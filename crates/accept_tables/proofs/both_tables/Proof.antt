@@ -10,20 +10,36 @@ use borrow.Author.Needs.{needs}
 use Rattle.accept_tables.proofs.both_tables.Statement.{statement}
 use Rattle.accept_tables.proofs.both_tables.Tie as tie
 
+abbrev begin : tie.After-enum-told → tie.Start
+begin c = c .before .before .before .before .before
+
+-- where the number before was told
+abbrev second : tie.After-enum-told2 → tie.After-enum-told
+second c = c .before .before .before
+
+abbrev third : tie.After-enum-told3 → tie.After-enum-told
+third c = second (c .before .before .before)
+
+abbrev fourth : tie.After-enum-told4 → tie.After-enum-told
+fourth c = third (c .before .before .before)
+
+abbrev fifth : tie.After-enum-told5 → tie.After-enum-told
+fifth c = fourth (c .before .before .before)
+
 -- each number that is not given, from what told so
-passed-1 : (c : tie.After-enum-told) → Accepted ≡ answer (rowsInRange (c .before .before .before .before .before .args .first .now) ∷ [])
+passed-1 : (c : tie.After-enum-told) → Accepted ≡ answer (rowsInRange (begin c .args .first .now) ∷ [])
 passed-1 c = sym (c .enum-told .given .1) ∙ c .before .before .one-number .ensures
 
-passed-2 : (c : tie.After-enum-told2) → Accepted ≡ answer (rowsInRange (c .before .before .before .before .before .before .before .before .args .second .now) ∷ [])
+passed-2 : (c : tie.After-enum-told2) → Accepted ≡ answer (rowsInRange (begin (second c) .args .second .now) ∷ [])
 passed-2 c = sym (c .enum-told2 .given .1) ∙ c .before .before .one-number2 .ensures
 
-passed-3 : (c : tie.After-enum-told3) → Accepted ≡ answer (roomsShared (c .before .before .before .before .before .before .before .before .before .before .before .args .first .now) ∷ [])
+passed-3 : (c : tie.After-enum-told3) → Accepted ≡ answer (roomsShared (begin (third c) .args .first .now) ∷ [])
 passed-3 c = sym (c .enum-told3 .given .1) ∙ c .before .before .one-number3 .ensures
 
-passed-4 : (c : tie.After-enum-told4) → Accepted ≡ answer (roomsShared (c .before .before .before .before .before .before .before .before .before .before .before .before .before .before .args .second .now) ∷ [])
+passed-4 : (c : tie.After-enum-told4) → Accepted ≡ answer (roomsShared (begin (fourth c) .args .second .now) ∷ [])
 passed-4 c = sym (c .enum-told4 .given .1) ∙ c .before .before .one-number4 .ensures
 
-passed-5 : (c : tie.After-enum-told5) → Accepted ≡ answer (rampsOnce (c .before .before .before .before .before .before .before .before .before .before .before .before .before .before .before .before .before .args .first .now) ∷ [])
+passed-5 : (c : tie.After-enum-told5) → Accepted ≡ answer (rampsOnce (begin (fifth c) .args .first .now) ∷ [])
 passed-5 c = sym (c .enum-told5 .given .1) ∙ c .before .before .one-number5 .ensures
 
 one-number-requires : tie.Need-one-number-requires

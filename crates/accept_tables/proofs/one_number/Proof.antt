@@ -33,7 +33,9 @@ passed table true e h = passes (rowsInRange table) e h refl
 passed table false e h = passes (roomsShared table) e h refl
 
 returns-3 : tie.Need-returns-3
-returns-3 c = rw (ne-eqb _ 4 (c .before .before .if1 .left)) (passed (c .before .before .before .before .before .args .table .now) (eqb (c .before .before .before .before .before .args .number) 2) (c .before .rows-fit .ensures) (search needs))
+returns-3 c =
+    let lists = c .before .before .before .before .before .args in
+    rw (ne-eqb _ 4 (c .before .before .if1 .left)) (passed (lists .table .now) (eqb (lists .number) 2) (c .before .rows-fit .ensures) (search needs))
 
 returns-4 : tie.Need-returns-4
 returns-4 c = rw (c .if4 .taken) (stops _ _ (rw (c .if4 .taken) at (c .before .before .rows-fit .ensures)) (search needs))

@@ -8,25 +8,35 @@ use Rattle.figwimple.proofs.Called.{fits-as, periods-refused, run-calle
 use Rattle.figwimple.proofs.figwimple_run.Statement.{statement}
 use Rattle.figwimple.proofs.figwimple_run.Tie as tie
 
+abbrev begin : tie.After-run → tie.Start
+begin c = c .before .before .before .before .before .before .before .before .before
+
 returns : tie.Need-returns
 returns c =
     let lists = c .before .before .before .before .before .before .before .args in
-    periods-refused asymmetric (corridorOf (lists .table .now) (lists .state .now)) (lists .demand .now) (lists .sheet .now) (lists .periods .now) (c .before .if1 .taken) (c .word .ensures)
+    periods-refused asymmetric (corridorOf (lists .table .now) (lists .state .now)) (lists .demand .now) (lists .sheet .now)
+    (lists .periods .now) (c .before .if1 .taken) (c .word .ensures)
 
 cast-periods : tie.Need-cast-periods
 cast-periods c =
-    let lists = c .before .before .before .before .before .before .before .before .before .before .before .before .before .before .args in
-    omega (arith, c .before .before .before .before .before .run .ensures .periods, few-periods asymmetric (corridorOf (lists .table .now) (lists .state .now)) (lists .demand .now) (lists .sheet .now))
+    let ran = c .before .before .before .before .before in
+    let lists = begin ran .args in
+    omega
+    (arith, ran .run .ensures .periods, few-periods asymmetric (corridorOf (lists .table .now) (lists .state .now)) (lists .demand .now) (lists .sheet .now))
 
 word-requires-2 : tie.Need-word-requires-2
 word-requires-2 c κs =
-    let lists = c .before .before .before .before .before .before .before .before .before .before .before .before .before .before .args in
-    fits-as (c .before .before .before .before .before .run .ensures .answered) (run-placed asymmetric (corridorOf (lists .table .now) (lists .state .now)) (lists .demand .now) (lists .sheet .now))
+    let ran = c .before .before .before .before .before in
+    let lists = begin ran .args in
+    fits-as (ran .run .ensures .answered)
+    (run-placed asymmetric (corridorOf (lists .table .now) (lists .state .now)) (lists .demand .now) (lists .sheet .now))
 
 returns-2 : tie.Need-returns-2
 returns-2 c =
-    let lists = c .before .before .before .before .before .before .before .before .before .before .before .before .before .before .before .args in
-    run-called asymmetric (corridorOf (lists .table .now) (lists .state .now)) (lists .demand .now) (lists .sheet .now) (lists .periods .now) (c .before .before .before .before .before .before .before .before .before .if1 .left) (c .before .before .before .before .before .before .run .ensures) (c .word2 .ensures)
+    let ran = c .before .before .before .before .before .before in
+    let lists = begin ran .args in
+    run-called asymmetric (corridorOf (lists .table .now) (lists .state .now)) (lists .demand .now) (lists .sheet .now)
+    (lists .periods .now) (ran .before .before .before .if1 .left) (ran .run .ensures) (c .word2 .ensures)
 
 pub figwimple-run-spec : {M : Type 1} → statement M
 figwimple-run-spec =

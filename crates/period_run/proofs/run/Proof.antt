@@ -20,7 +20,7 @@ corridor c = corridorOf (begin c .args .table .now) (begin c .args .state .now)
 told : (c : tie.After-run-lists-fit) → c .run-lists-fit .result ≡ runListsFit (cellsOf (corridor c)) (begin c .args .demand .now) (begin c .args .sheet .now)
 told c = c .run-lists-fit .ensures ∙ ap (λ n. runListsFit n (begin c .args .demand .now) (begin c .args .sheet .now)) (c .before .before .cells .ensures)
 
-fit : (c : tie.After-accept-state) → runListsFit (cellsOf (corridor (c .before .before .before))) (begin (c .before .before .before) .args .demand .now) (begin (c .before .before .before) .args .sheet .now) ≡ true
+fit : (c : tie.After-accept-state) → let lists = c .before .before .before in runListsFit (cellsOf (corridor lists)) (begin lists .args .demand .now) (begin lists .args .sheet .now) ≡ true
 fit c = sym (told (c .before .before .before)) ∙ not-false _ (c .before .before .if1 .left)
 
 returns : tie.Need-returns

@@ -39,7 +39,8 @@ run-rows-requires c κs =
     let here = limited .before .before in
     let start = begin (here .before) in
     let part = take (here .before .before .demand-length .result) (here .before .demand-space .result) in
-    let len : length part ≡ demandLength (cells (start .args .table .now)) = space-part here ∙ here .before .before .demand-length .ensures ∙ ap demandLength (here .before .before .before .cells .ensures) in
+    let width = here .before .before in
+    let len : length part ≡ demandLength (cells (start .args .table .now)) = space-part here ∙ width .demand-length .ensures ∙ ap demandLength (width .before .cells .ensures) in
     (start .pre, limits-made (start .args .table .now) part len (limited .demand-limits .ensures))
 
 pub run-within-limits-spec : {M : Type 1} → statement M

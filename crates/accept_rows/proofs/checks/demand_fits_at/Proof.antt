@@ -12,8 +12,9 @@ returns-2 : tie.Need-returns-2
 returns-2 c =
     let called = c .before .before .before in
     let first = called .before .before .before in
-    rw
-    (at-cell, at-cell, first .before .if1 .left, called .queue-holds2 .ensures, c .demand-fits .ensures, c .before .off-demand-at .ensures, c .before .before .row-at .ensures, called .before .queue-at .ensures, called .before .before .on-demand-at .ensures, first .cells .ensures)
+    rw (at-cell, at-cell, first .before .if1 .left, called .queue-holds2 .ensures, c .demand-fits .ensures)
+    (rw
+    (c .before .off-demand-at .ensures, c .before .before .row-at .ensures, called .before .queue-at .ensures, called .before .before .on-demand-at .ensures, first .cells .ensures))
 
 pub demand-fits-at-spec : {M : Type 1} → statement M
 demand-fits-at-spec =

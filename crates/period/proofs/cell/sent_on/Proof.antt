@@ -17,7 +17,9 @@ returns-2 c =
     rw (ne-eqb _ _ (c .before .before .before .if1 .left), eq-eqb _ _ (c .before .if2 .taken), c .least .ensures, c .before .before .before .before .before .sending .ensures)
 
 mul-result : tie.Need-mul-result
-mul-result c = record { fits = product-fits _ _ (omega (arith, share-within (c .before .before .before .before .before .before .args .row .v) (c .before .before .before .before .before .before .args .n) (c .before .before .before .before .before .before .pre .0))) (omega arith) }
+mul-result c =
+    let start = c .before .before .before .before .before .before in
+    record { fits = product-fits _ _ (omega (arith, share-within (start .args .row .v) (start .args .n) (start .pre .0))) (omega arith) }
 
 returns-3 : tie.Need-returns-3
 unfolding M
