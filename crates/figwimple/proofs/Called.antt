@@ -32,7 +32,8 @@ use Rattle.calibrate_fit.specs.declared.Calibration.{Calibration}
 use Rattle.calibrate_fit.specs.declared.Calibration.the-variants.{Calibrated, NotCalibrated}
 use Rattle.calibrate_rows.specs.RowNumbers.{rowNumbers}
 use Rattle.calibrate_fit.specs.Calibration.{calibrationChecks, fittedDiagram, fittedValues, calibratedAs, calibrationOf}
-use Rattle.figwimple.specs.Words.{HALF, wordOf, Placed}
+use Rattle.figwimple.specs.Words.{HALF, wordOf}
+use Rattle.figwimple.specs.Private.{Placed}
 use Rattle.figwimple.specs.Calls.{PeriodCalled, RunCalled, RecutCalled, fiveOf, fourOf, resultsFit, CalibrateCalled}
 use Rattle.figwimple.proofs.Places.{calibration-placed}
 

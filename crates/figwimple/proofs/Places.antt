@@ -30,7 +30,8 @@ use Rattle.calibrate_rows.specs.Rows.{valuesFit}
 use Rattle.calibrate_fit.specs.declared.Settings.{Settings}
 use Rattle.calibrate_fit.specs.Calibration.{lengthsFit, samplesUsable, diagramFits, fittedValues, calibrationChecks}
 use Rattle.calibrate_fit.proofs.Answers.{lengths-fit}
-use Rattle.figwimple.specs.Words.{HALF, Placed}
+use Rattle.figwimple.specs.Words.{HALF}
+use Rattle.figwimple.specs.Private.{Placed}
 use Rattle.layout.specs.Corridor.{Corridor, cellsOf}
 
 -- each refusal of each check has a place that fits

@@ -1,5 +1,5 @@
 -- An answer as one word, and number 1 for a lent list of results that has not its length.
-use Prim.Native.Nat.{ℕ, _+_, _*_, _<_}
+use Prim.Native.Nat.{ℕ, _+_, _*_}
 use mathlib.Core.Bool.{Bool}
 use Rattle.whole.specs.Search.{pick}
 use Rattle.refusals.specs.declared.Refusal.the-variants.{Length}
@@ -15,11 +15,6 @@ HALF = 4_294_967_296
 abbrev pub wordOf : Answer → ℕ
 wordOf Accepted = 0
 wordOf (Refused refusal) = numberOf refusal * HALF + placeOf refusal
-
--- the place of an answer fits its half
-abbrev pub Placed : Answer → Type 0
-Placed Accepted = Unit
-Placed (Refused refusal) = placeOf refusal < HALF
 
 -- number 1, the lowest, where the lists of results have not their lengths
 abbrev pub withLists : Bool → Answer → Answer

@@ -12,7 +12,7 @@ use Rattle.accept_tables.proofs.Accepted.{TableFits}
 use Rattle.accept_rows.proofs.Accepted.{StateFits, RowFits}
 use Rattle.period.specs.Sharing.{Sharing}
 use Rattle.period.specs.Period.{flowAt, offFlowAt, onFlowAt, corridorAfter}
-use Rattle.period.proofs.Fair.{Fair}
+use Rattle.period.specs.Fair.{Fair}
 use Rattle.period.proofs.Laws.{cell-balance, entry-balance, queue-balance}
 use Rattle.ledger.specs.Account.{demanded, leftRoad}
 

@@ -2,7 +2,8 @@
 use mathlib.Core.List.{List}
 use Rattle.layout.specs.Corridor.{Corridor}
 use Rattle.period.specs.Sharing.{Sharing, asymmetric}
-use Rattle.period.proofs.Fair.{Fair, asymmetric-is-fair}
+use Rattle.period.specs.Fair.{Fair}
+use Rattle.period.proofs.Fair.{asymmetric-is-fair}
 use Rattle.ledger.specs.Calls.{Call, IsAccepted, period, run, recut}
 use Rattle.ledger.specs.Demand3.{Demand3}
 use Rattle.ledger.proofs.Sound.{CallIsSound, demand-3-from}

@@ -19,7 +19,7 @@ use Rattle.accept_rows.specs.Acceptance.{stateLengthsFit, stateNumbers, demandN
 use Rattle.refusals.proofs.Answers.{accepted-passes, accepted-both, lengths-passed}
 use Rattle.period.specs.Sharing.{Sharing}
 use Rattle.period.specs.Period.{onFlowAt, stateAfter, corridorAfter, periodChecks}
-use Rattle.period.proofs.Fair.{Fair}
+use Rattle.period.specs.Fair.{Fair}
 use Rattle.period.proofs.Reading.{after-length}
 use Rattle.period.proofs.Laws.{queue-balance}
 use Rattle.period.proofs.Again.{t, s, d, state-stays-accepted}

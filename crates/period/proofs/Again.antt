@@ -20,7 +20,7 @@ use Rattle.accept_tables.proofs.Accepted.{TableFits, table-fits}
 use Rattle.accept_rows.proofs.Accepted.{StateFits, RowFits, state-fits, row-fits}
 use Rattle.period.specs.Sharing.{Sharing}
 use Rattle.period.specs.Period.{corridorAfter}
-use Rattle.period.proofs.Fair.{Fair}
+use Rattle.period.specs.Fair.{Fair}
 use Rattle.period.proofs.Laws.{entry-balance, queue-balance, count-stays-within}
 
 module _ (way : Sharing) (fair : Fair way) (c : Corridor) (demand : List ℕ) (accepted : answer (stateNumbers c) ≡ Accepted) (row : answer (demandNumbers c demand) ≡ Accepted) where

@@ -1,4 +1,4 @@
--- What demand 3 needs of a way of sharing room, and of the off-ramp: no other fact of either is used. Assumes nothing.
+-- That the asymmetric way is fair, and what demand 3 needs of the off-ramp: no other fact of either is used. Assumes nothing.
 use Prim.Native.Nat.{ℕ, _+_, _-_, _≤_, min}
 use mathlib.Core.Path.{_≡_, refl}
 use mathlib.Core.Bool.{Bool, true, false}
@@ -10,12 +10,8 @@ use Rattle.whole.specs.Search.{pick}
 use Rattle.whole.proofs.Shares.{share-within, part-within, shares-fit}
 use Rattle.layout.specs.declared.Row.{Row}
 use Rattle.period.specs.Cell.{D, M, leaving, offFlow}
-use Rattle.period.specs.Sharing.{Sharing, asymmetric}
-
-pub record Fair (way : Sharing) : Type 0 where
-  pub mainline-of-offer : (r : Row) (n a e : ℕ) → way r n a e .main ≤ a
-  pub ramp-of-offer : (r : Row) (n a e : ℕ) → way r n a e .ramp ≤ e
-  pub both-fit : (r : Row) (n a e : ℕ) → r .w + r .x ≤ ONE → way r n a e .main + way r n a e .ramp ≤ r .jam - n
+use Rattle.period.specs.Sharing.{asymmetric}
+use Rattle.period.specs.Fair.{Fair}
 
 pub asymmetric-is-fair : Fair asymmetric
 asymmetric-is-fair =

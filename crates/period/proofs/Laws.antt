@@ -12,7 +12,8 @@ use Rattle.accept_tables.proofs.Accepted.{TableFits}
 use Rattle.accept_rows.proofs.Accepted.{StateFits, RowFits}
 use Rattle.period.specs.Sharing.{Sharing}
 use Rattle.period.specs.Period.{offerAt, rampOfferAt, nodeAt, flowAt, offFlowAt, onFlowAt, corridorAfter}
-use Rattle.period.proofs.Fair.{Fair, sends-what-it-has, leaves-what-it-has}
+use Rattle.period.specs.Fair.{Fair}
+use Rattle.period.proofs.Fair.{sends-what-it-has, leaves-what-it-has}
 use Rattle.period.proofs.Nodes.{flow-in-is}
 use Rattle.period.proofs.Reading.{after-entry, after-count, after-queue}
 

@@ -11,7 +11,7 @@ use Rattle.period.specs.Sharing.{Sharing}
 use Rattle.period.specs.Updated.{updated}
 use Rattle.period.specs.Period.{RowAccepted, flowAt, offFlowAt, onFlowAt, sheetOf, stateAfter, RowDone}
 use Rattle.period.specs.Private.{CellUpdatable, Updatable}
-use Rattle.period.proofs.Fair.{Fair}
+use Rattle.period.specs.Fair.{Fair}
 use Rattle.period.proofs.Facts.{Facts, facts}
 use Rattle.period.proofs.Laws.{flow-of-offer, what-leaves-is-in-the-cell, what-comes-fits, ramp-of-queue}
 use Rattle.period.proofs.Reading.{of-length, of-flow, of-off, of-on}

@@ -1,5 +1,6 @@
 pub mod Cell
 pub mod Sharing
+pub mod Fair
 pub mod Updated
 pub mod Period
 pub mod Private

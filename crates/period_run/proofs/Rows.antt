@@ -22,7 +22,7 @@ use Rattle.whole.proofs.Tests.{both-hold}
 use Rattle.period.specs.Sharing.{Sharing}
 use Rattle.period.specs.Period.{corridorAfter, RowAccepted, RowDone}
 use Rattle.layout.specs.Sheet.{sheetLength}
-use Rattle.period.proofs.Fair.{Fair}
+use Rattle.period.specs.Fair.{Fair}
 use Rattle.period.proofs.Reading.{after-length, of-length}
 use Rattle.period.proofs.Again.{state-stays-accepted}
 use Rattle.period.proofs.Rows.{row-fits, row-alone, row-is-accepted, same-length-fits}

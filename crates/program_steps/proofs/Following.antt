@@ -24,7 +24,7 @@ use Rattle.text_records.specs.declared.Read.the-variants as Read
 use Rattle.text_laws.proofs.Pieces.{reaches-on}
 use Rattle.period.specs.Sharing.{Sharing}
 use Rattle.period.specs.Period.{sheetOf, corridorAfter}
-use Rattle.period.proofs.Fair.{Fair}
+use Rattle.period.specs.Fair.{Fair}
 use Rattle.program_files.specs.Stops.{broken, refusedIn}
 use Rattle.program_files.specs.Files.{counted}
 use Rattle.program_steps.specs.Lines.{stopText}

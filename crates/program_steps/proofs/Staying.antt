@@ -16,7 +16,7 @@ use Rattle.text_scans.specs.declared.Step.{Step}
 use Rattle.text_scans.specs.declared.Step.the-variants.{More, Field, Complete, Breaks}
 use Rattle.period.specs.Sharing.{Sharing}
 use Rattle.period.specs.Period.{sheetOf, corridorAfter}
-use Rattle.period.proofs.Fair.{Fair}
+use Rattle.period.specs.Fair.{Fair}
 use Rattle.program_files.specs.Files.{counted}
 use Rattle.program_steps.specs.Turns.{linesOf, demandAnswer}
 use Rattle.program_steps.specs.Demand.{later, Followed, silent, after, tried, followOf, linesRoom, follow}

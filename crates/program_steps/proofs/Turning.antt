@@ -22,7 +22,7 @@ use Rattle.accept_rows.specs.Acceptance.{stateLengthsFit, stateNumbers, stateCh
 use Rattle.accept_rows.proofs.Lengths.{state-length, cells-most}
 use Rattle.period.specs.Sharing.{Sharing}
 use Rattle.period.specs.Period.{sheetOf, stateAfter, RowDone, corridorAfter}
-use Rattle.period.proofs.Fair.{Fair}
+use Rattle.period.specs.Fair.{Fair}
 use Rattle.period.proofs.Reading.{after-length, of-length}
 use Rattle.period.proofs.Again.{state-stays-accepted}
 use Rattle.period.proofs.Rows.{same-length-fits}
