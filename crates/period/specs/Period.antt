@@ -15,9 +15,8 @@ use Rattle.layout.specs.Layout.{entryDemand, onDemandAt, offDemandAt}
 use Rattle.layout.specs.Sheet.{sheetLength, sheetFrom}
 use Rattle.layout.specs.Corridor.{Corridor, corridorOf, cellsOf, rowOf, entryQueueOf, countOf, queueOf}
 use Rattle.accept_rows.specs.Acceptance.{rowLengthsFit, stateNumbers, demandNumbers, rowChecks}
-use Rattle.period.specs.declared.Passed.{Passed}
 use Rattle.period.specs.Cell.{M, offFlow, modeOf}
-use Rattle.period.specs.Sharing.{Sharing}
+use Rattle.period.specs.Sharing.{Passed, Sharing}
 use Rattle.period.specs.Updated.{updated}
 
 -- F, the capacity that holds for a cell now, and c, the limit that holds for an on-ramp now

@@ -12,10 +12,9 @@ use Rattle.layout.specs.Sheet.{sheetLength, flowIn, offFlowIn, onFlowIn}
 use Rattle.layout.specs.Corridor.{Corridor, cellsOf, rowOf, countOf}
 use Rattle.period.specs.declared.Onward.{Onward}
 use Rattle.period.specs.declared.Opening.{Opening}
-use Rattle.period.specs.declared.Passed.{Passed}
 use Rattle.period.specs.declared.Sent.{Sent}
 use Rattle.period.specs.Cell.{R, M, offFlow, modeOf}
-use Rattle.period.specs.Sharing.{Sharing}
+use Rattle.period.specs.Sharing.{Passed, Sharing}
 use Rattle.period.specs.Period.{capacityNow, flowAt, offFlowAt, modeAt}
 
 -- what a receiving cell opens at its node, and what passes of the mainline's offer a: the asymmetric way in two steps

@@ -23,13 +23,6 @@ pub struct Opening {
     pub ramp: u32,
 }
 
-// What passes at a node: on the mainline, from the on-ramp, and whether the room there leaves the mainline free.
-pub struct Passed {
-    pub main: u32,
-    pub ramp: u32,
-    pub clear: bool,
-}
-
 // The flow out of a cell onward, and the cell's mode.
 pub struct Onward {
     pub f: u32,
