@@ -1,15 +1,16 @@
 -- What the tests of a cell's numbers say when they pass. Assumes nothing.
 use Prim.Native.Nat.{ℕ, _≤_, zero-le}
 use mathlib.Core.Path.{_≡_}
-use mathlib.Core.Bool.{Bool, true, false}
-use borrow.Author.Tests.{leb-true}
+use mathlib.Core.Bool.{Bool, true, false, _&&_}
+use borrow.Author.Tests.{leb-true, le-leb}
 use native.Mathlib.Omega.{arith}
 use lib.Dec.{leb, eqb}
 use Rattle.whole.specs.Share.{ONE}
 use Rattle.whole.specs.Search.{pick, within}
 use Rattle.whole.proofs.Tests.{both-hold}
 use Rattle.layout.specs.declared.Row.{Row}
-use Rattle.accept_ranges.specs.Ranges.{rowInRange, withRamp}
+use Rattle.layout.specs.declared.Cell.{Cell}
+use Rattle.accept_ranges.specs.Ranges.{rowInRange, withRamp, queueLimit, stateFits}
 
 pub record Between (low high x : ℕ) : Type 0 where
   pub least : low ≤ x
@@ -60,3 +61,17 @@ with-ramp-at-most ramp bound = by (eqb ramp 0)
     by : (none : Bool) → pick none 0 bound ≤ bound
     by true = zero-le
     by false = omega arith
+
+-- a cell of a state in range, and back
+pub record CellFits (r : Row) (cell : Cell) : Type 0 where
+  pub count : cell .count ≤ r .jam
+  pub queue : cell .queue ≤ withRamp (r .on) queueLimit
+
+pub cell-fits : (r : Row) (cell : Cell) → stateFits r cell ≡ true → CellFits r cell
+cell-fits r cell e =
+    let queue = both-hold (leb (cell .count) (r .jam)) _ e in
+    record { count = leb-true _ _ (queue .0); queue = leb-true _ _ (queue .1) }
+
+pub fits-cell : (r : Row) (cell : Cell) → CellFits r cell → stateFits r cell ≡ true
+fits-cell r cell fits =
+    λ j. le-leb (cell .count) (r .jam) (fits .count) j && le-leb (cell .queue) (withRamp (r .on) queueLimit) (fits .queue) j

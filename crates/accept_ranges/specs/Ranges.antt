@@ -5,6 +5,7 @@ use lib.Dec.{leb, eqb}
 use Rattle.whole.specs.Share.{ONE}
 use Rattle.whole.specs.Search.{pick, within}
 use Rattle.layout.specs.declared.Row.{Row}
+use Rattle.layout.specs.declared.Cell.{Cell}
 
 -- a bound that holds where there is a ramp; with ramp number 0 it is 0
 abbrev pub withRamp : ℕ → ℕ → ℕ
@@ -31,8 +32,8 @@ roomShared r = leb (r .w + r .x) ONE
 abbrev pub queueLimit : ℕ
 queueLimit = 1_000_000_000
 
-abbrev pub stateFits : Row → ℕ → ℕ → Bool
-stateFits r n q = leb n (r .jam) && leb q (withRamp (r .on) queueLimit)
+abbrev pub stateFits : Row → Cell → Bool
+stateFits r cell = leb (cell .count) (r .jam) && leb (cell .queue) (withRamp (r .on) queueLimit)
 
 -- 6: a demand is at most 1,000,000; d is 0 without an on-ramp, o is 0 unless an off-ramp has b = 0
 abbrev pub demandLimit : ℕ

@@ -1,6 +1,7 @@
 // The ranges of the numbers of one cell: of its row (numbers 2 and 3), its count and queue (5), its demands (6) and both together (7).
 ghost use mathlib.Core.Path.{_≡_};
 ghost use Rattle.accept_ranges.specs.Ranges.{withRamp, rowInRange, roomShared, stateFits, givenOff, demandFits, queueHolds};
+use layout::Cell;
 use layout::Row;
 use whole::within;
 
@@ -34,10 +35,10 @@ pub fn room_shared(row: Row) -> bool
 }
 
 // Whether a cell's count and on-ramp queue are in their ranges.
-pub fn state_fits(row: Row, n: u32, q: u32) -> bool
-    ensures { λ r. ⌜ r ≡ stateFits row n q ⌝ }
+pub fn state_fits(row: Row, cell: Cell) -> bool
+    ensures { λ r. ⌜ r ≡ stateFits row cell ⌝ }
 {
-    (n <= row.jam) & (q <= with_ramp(row.on, 1_000_000_000))
+    (cell.count <= row.jam) & (cell.queue <= with_ramp(row.on, 1_000_000_000))
 }
 
 // The most that a row lets an off-ramp's demand be.

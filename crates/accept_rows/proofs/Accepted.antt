@@ -12,16 +12,16 @@ use Rattle.refusals.specs.declared.Answer.the-variants.{Accepted, Refused}
 use Rattle.layout.specs.Layout.{entryDemand, onDemandAt, offDemandAt}
 use Rattle.refusals.specs.Checks.{Check, least, answer}
 use Rattle.accept_ranges.specs.Ranges.{withRamp, givenOff, queueLimit, demandLimit}
+use Rattle.accept_ranges.proofs.Ranges.{CellFits, cell-fits}
 use Rattle.accept_tables.specs.Tables.{tableNumbers}
 use Rattle.accept_rows.specs.Acceptance.{stateInRange, stateNumbers, demandNumbers}
 use Rattle.refusals.proofs.Answers.{stops, passes, accepted-passes, passes-accepted, accepted-both}
 use Rattle.whole.proofs.Tests.{both-hold}
-use Rattle.layout.specs.Corridor.{Corridor, cellsOf, rowOf, entryQueueOf, countOf, queueOf}
+use Rattle.layout.specs.Corridor.{Corridor, cellsOf, rowOf, entryQueueOf, queueOf, cellOf}
 
 pub record StateFits (c : Corridor) : Type 0 where
   pub entry : entryQueueOf c ≤ queueLimit
-  pub counts : (i : ℕ) → i < cellsOf c → countOf c i ≤ rowOf c i .jam
-  pub queues : (i : ℕ) → i < cellsOf c → queueOf c i ≤ withRamp (rowOf c i .on) queueLimit
+  pub cells : (i : ℕ) → i < cellsOf c → CellFits (rowOf c i) (cellOf c i)
 
 pub record RowFits (c : Corridor) (demand : List ℕ) : Type 0 where
   pub entry : entryDemand demand ≤ demandLimit
@@ -35,8 +35,7 @@ state-fits c e =
     let passed = accepted-passes _ _ (accepted-both (tableNumbers (c .table)) (stateInRange c ∷ []) e .1) .0 in
     record {
       entry = leb-true _ _ (passed 0 (omega arith));
-      counts = λ i h. leb-true _ _ (both-hold _ _ (passed (suc i) (omega arith)) .0);
-      queues = λ i h. leb-true _ _ (both-hold (leb (countOf c i) (rowOf c i .jam)) _ (passed (suc i) (omega arith)) .1);
+      cells = λ i h. cell-fits (rowOf c i) (cellOf c i) (passed (suc i) (omega arith));
     }
 
 pub row-fits : (c : Corridor) (demand : List ℕ) → answer (demandNumbers c demand) ≡ Accepted → RowFits c demand

@@ -8,7 +8,7 @@ use lib.ListN.{length}
 use Rattle.whole.specs.Sums.{atPosition}
 use Rattle.refusals.specs.declared.Refusal.the-variants.{StateNumber, Demand, QueueOver}
 use Rattle.layout.specs.Layout.{stateLength, demandLength, entryDemand, onDemandAt, offDemandAt}
-use Rattle.layout.specs.Corridor.{Corridor, cellsOf, rowOf, entryQueueOf, countOf, queueOf}
+use Rattle.layout.specs.Corridor.{Corridor, cellsOf, rowOf, entryQueueOf, queueOf, cellOf}
 use Rattle.refusals.specs.Checks.{Check, lengths}
 use Rattle.accept_ranges.specs.Ranges.{queueLimit, stateFits, demandLimit, demandFits, queueHolds}
 use Rattle.accept_tables.specs.Tables.{tableLengthFits, tableNumbers}
@@ -26,7 +26,7 @@ abbrev pub stateInRange : Corridor → Check
 stateInRange c =
     record {
       places = cellsOf c + 1;
-      test = atPosition (leb (entryQueueOf c) queueLimit) (λ i. stateFits (rowOf c i) (countOf c i) (queueOf c i));
+      test = atPosition (leb (entryQueueOf c) queueLimit) (λ i. stateFits (rowOf c i) (cellOf c i));
       refusal = StateNumber;
     }
 

@@ -24,11 +24,7 @@ fn state_fits_at(table: &[u32], state: &[u32], position: usize) -> bool
         return entry_queue(state) <= 1_000_000_000;
     }
     let i = position - 1;
-    state_fits(
-        row_at(table, i),
-        count_at(state, i),
-        queue_at(cells(table), state, i),
-    )
+    state_fits(row_at(table, i), cell_at(cells(table), state, i))
 }
 
 // Number 5.

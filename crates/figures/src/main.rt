@@ -97,7 +97,7 @@ fn one_cut(n: u32) {
 fn first_periods() {
     let mut two_cells = [500u32, 8_000, 4_000, 0, 0];
     let mut two_sheet = [0u32; 9];
-    show::total(b"printed, vehicles before: ", &two_cells);
+    show::vehicles(b"printed, vehicles before: ", 2, &two_cells);
     one_period(
         b"printed",
         &ROAD,
@@ -105,7 +105,7 @@ fn first_periods() {
         &[300, 0, 0, 0, 0],
         &mut two_sheet,
     );
-    show::total(b"printed, vehicles after: ", &two_cells);
+    show::vehicles(b"printed, vehicles after: ", 2, &two_cells);
     let mut sheet = [0u32; 5];
     let mut split = [0u32, 1_000, 0];
     one_period(

@@ -1,3 +1,4 @@
 pub mod Laid
 pub mod Readers
 pub mod Settled
+pub mod States

@@ -30,6 +30,8 @@ use Rattle.layout.proofs.count_at.Kinds as count-at-kinds
 use Rattle.layout.proofs.count_at.Reads as count-at
 use Rattle.layout.proofs.queue_at.Kinds as queue-at-kinds
 use Rattle.layout.proofs.queue_at.Reads as queue-at
+use Rattle.layout.proofs.cell_at.Kinds as cell-at-kinds
+use Rattle.layout.proofs.cell_at.Reads as cell-at
 use Rattle.layout.proofs.entry_demand.Kinds as entry-demand-kinds
 use Rattle.layout.proofs.entry_demand.Reads as entry-demand
 use Rattle.layout.proofs.on_demand_at.Kinds as on-demand-at-kinds
@@ -95,6 +97,9 @@ count-at-settles κs a y z e f = settled
 
 pub queue-at-settles : Settles _ queue-at-kinds.ps queue-at-kinds.r queue-at.Learnt
 queue-at-settles κs a y z e f = settled
+
+pub cell-at-settles : Settles _ cell-at-kinds.ps cell-at-kinds.r cell-at.Learnt
+cell-at-settles κs a y z e f = settled
 
 pub entry-demand-settles : Settles _ entry-demand-kinds.ps entry-demand-kinds.r entry-demand.Learnt
 entry-demand-settles κs a y z e f = settled

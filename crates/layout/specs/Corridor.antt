@@ -2,7 +2,8 @@
 use Prim.Native.Nat.{ℕ}
 use mathlib.Core.List.{List}
 use Rattle.layout.specs.declared.Row.{Row}
-use Rattle.layout.specs.Layout.{cells, rowAt, entryQueue, countAt, queueAt}
+use Rattle.layout.specs.declared.Cell.{Cell}
+use Rattle.layout.specs.Layout.{cells, rowAt, entryQueue, countAt, queueAt, cellAt}
 
 pub record Corridor : Type 0 where
   pub table : List ℕ
@@ -28,3 +29,6 @@ module _ (c : Corridor) where
 
   abbrev pub queueOf : ℕ → ℕ
   queueOf = queueAt cellsOf (c .state)
+
+  abbrev pub cellOf : ℕ → Cell
+  cellOf = cellAt cellsOf (c .state)

@@ -60,6 +60,14 @@ countAt state i = getD state (1 + i) 0
 abbrev pub queueAt : ℕ → List ℕ → ℕ → ℕ
 queueAt n state i = getD state (1 + n + i) 0
 
+-- the cell of index i
+abbrev pub cellAt : ℕ → List ℕ → ℕ → Cell
+cellAt n state i = record { count = countAt state i; queue = queueAt n state i }
+
+-- the numbers of a cell, one for each column
+abbrev pub cellNumbers : Cell → List ℕ
+cellNumbers cell = cell .count ∷ cell .queue ∷ []
+
 abbrev pub stateColumns : (ℕ → Cell) → List (ℕ → ℕ)
 stateColumns cell = (λ i. cell i .count) ∷ (λ i. cell i .queue) ∷ []
 
@@ -69,7 +77,7 @@ stateOf n entry cell = laid n entry (stateColumns cell)
 
 -- the state with the cell of index i stored
 unfoldable pub withCell : ℕ → List ℕ → ℕ → Cell → List ℕ
-withCell n state i cell = stored n 1 i (cell .count ∷ cell .queue ∷ []) state
+withCell n state i cell = stored n 1 i (cellNumbers cell) state
 
 -- a demand row of n cells: the entry demand, then the on-ramp demands d, then the off-ramp demands o
 abbrev pub demandLength : ℕ → ℕ

@@ -4,7 +4,7 @@ ghost use mathlib.Core.Path.{_≡_};
 ghost use Prim.Native.Nat.{_+_, _*_, _<_};
 ghost use lib.ListN.{length};
 ghost use Rattle.layout.specs.Laid.{Space, withEntry};
-ghost use Rattle.layout.specs.Layout.{WIDTH, Listed, MOST, cells, tableLength, rowAt, rampAt, stateLength, entryQueue, countAt, queueAt, withCell, demandLength, entryDemand, onDemandAt, offDemandAt, withDemands};
+ghost use Rattle.layout.specs.Layout.{WIDTH, Listed, MOST, cells, tableLength, rowAt, rampAt, stateLength, entryQueue, countAt, queueAt, cellAt, withCell, demandLength, entryDemand, onDemandAt, offDemandAt, withDemands};
 
 pub mod sheet;
 
@@ -144,6 +144,17 @@ pub fn queue_at(n: usize, state: &[u32], i: usize) -> u32
     ensures { λ r. ⌜ r ≡ queueAt n (now (state .entry)) i ⌝ }
 {
     state[1 + n + i]
+}
+
+// The cell of index i in a state.
+pub fn cell_at(n: usize, state: &[u32], i: usize) -> Cell
+    requires { ⌜ (i < n) × (length (now state) ≡ stateLength n) ⌝ }
+    ensures { λ r. ⌜ r ≡ cellAt n (now (state .entry)) i ⌝ }
+{
+    Cell {
+        count: state[1 + i],
+        queue: state[1 + n + i],
+    }
 }
 
 // Stores the cell of index i in a state.

@@ -1,7 +1,7 @@
 -- The state after an accepted period is accepted again. Assumes nothing.
 use Prim.Native.Nat.{ℕ, zero, suc, _+_, _≤_, _<_}
-use mathlib.Core.Path.{_≡_, refl, ap₂}
-use mathlib.Core.Bool.{Bool, true, false, _&&_}
+use mathlib.Core.Path.{_≡_, refl}
+use mathlib.Core.Bool.{Bool, true, false}
 use mathlib.Core.List.{List, [], _∷_}
 use native.Mathlib.Omega.{arith}
 use borrow.Author.Tests.{le-leb}
@@ -11,8 +11,9 @@ use Rattle.whole.proofs.Search.{Passes}
 use Rattle.refusals.specs.declared.Answer.the-variants.{Accepted}
 use Rattle.refusals.specs.Checks.{answer}
 use Rattle.layout.specs.Layout.{onDemandAt}
-use Rattle.layout.specs.Corridor.{Corridor, cellsOf, rowOf, entryQueueOf, countOf, queueOf}
+use Rattle.layout.specs.Corridor.{Corridor, cellsOf, rowOf, entryQueueOf, queueOf, cellOf}
 use Rattle.accept_ranges.specs.Ranges.{withRamp, queueLimit, demandLimit}
+use Rattle.accept_ranges.proofs.Ranges.{fits-cell}
 use Rattle.accept_tables.specs.Tables.{tableNumbers}
 use Rattle.accept_rows.specs.Acceptance.{stateInRange, stateNumbers, demandNumbers}
 use Rattle.refusals.proofs.Answers.{accepted-both, both-accepted, passes-accepted}
@@ -48,9 +49,11 @@ module _ (way : Sharing) (fair : Fair way) (c : Corridor) (demand : List ℕ) (a
       le-leb (entryQueueOf after) queueLimit (omega (arith, entry-balance way fair c demand t s d, d .entry-holds))
   stays-in-range (suc i) h =
       let below : i < cellsOf c = omega arith in
-      ap₂ (λ a b. a && b) (le-leb (countOf after i) (rowOf c i .jam) (count-stays-within way fair c demand t s d i below))
-      (le-leb (queueOf after i) (withRamp (rowOf c i .on) queueLimit)
-      (queue-stays-within i below (eqb (rowOf c i .on) 0) (s .queues i below) (d .ons i below)))
+      fits-cell (rowOf c i) (cellOf after i)
+      (record {
+        count = count-stays-within way fair c demand t s d i below;
+        queue = queue-stays-within i below (eqb (rowOf c i .on) 0) (s .cells i below .queue) (d .ons i below);
+      })
 
   pub state-stays-accepted : answer (stateNumbers (corridorAfter way c demand)) ≡ Accepted
   state-stays-accepted =

@@ -55,7 +55,7 @@ workable {c} {i = i} known all h =
       v = row .v .most;
       b = omega (arith, row .b .most, with-ramp-at-most (rowOf c i .off) 65_535);
       capacity = row .capacity .most;
-      count = known .s .counts i h;
+      count = known .s .cells i h .count;
     }
 
 pub last-workable : {n : ℕ} (c : Corridor) (demand : List ℕ) → RowAccepted c demand → n ≡ cellsOf c → Workable n c demand (n - 1)

@@ -65,4 +65,4 @@ module _ (way : Sharing) (fair : Fair way) (c : Corridor) (demand : List ℕ) (t
 
   -- after the period each cell holds between nothing and its jam count
   pub count-stays-within : (i : ℕ) → i < cellsOf c → countOf (corridorAfter way c demand) i ≤ rowOf c i .jam
-  count-stays-within i h = omega (arith, after-count way c demand i h, what-comes-fits i h, s .counts i h)
+  count-stays-within i h = omega (arith, after-count way c demand i h, what-comes-fits i h, s .cells i h .count)

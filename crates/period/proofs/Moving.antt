@@ -32,7 +32,7 @@ module _ (way : Sharing) (fair : Fair way) (c : Corridor) (demand : List ℕ) (k
         state-length = known .state-length;
         demand-length = known .demand-length;
         sheet-length = of-length way c demand;
-        comes = omega (arith, flow, on, what-comes-fits way fair c demand t s d i h, s .counts i h, t .rows i h .jam .most);
+        comes = omega (arith, flow, on, what-comes-fits way fair c demand t s d i h, s .cells i h .count, t .rows i h .jam .most);
         leaves =
             rw (add-one, of-flow way c demand (suc i) (omega arith), of-off way c demand i h)
             (what-leaves-is-in-the-cell way fair c demand t s d i h);

@@ -7,16 +7,17 @@ use native.Mathlib.Omega.{arith}
 use lib.ListN.{length}
 use Rattle.layout.specs.declared.Cell.{Cell}
 use Rattle.layout.specs.Laid.{withEntry}
-use Rattle.layout.specs.Layout.{stateLength, entryQueue, countAt, queueAt, stateColumns, stateOf, withCell, entryDemand}
+use Rattle.layout.specs.Layout.{stateLength, entryQueue, countAt, queueAt, cellAt, stateColumns, stateOf, withCell, entryDemand}
 use Rattle.layout.specs.Sheet.{flowIn}
-use Rattle.layout.proofs.Laid.{Laying, laying-none, laying-cell, laying-whole, stored-entry}
+use Rattle.layout.proofs.Laid.{Laying, laying-none, laying-whole}
+use Rattle.layout.proofs.States.{as-it-stands, cell-is, cell-stored, entry-stays}
 use Rattle.period.specs.Updated.{cellAfter, updated}
 use Rattle.period.specs.Private.{CellUpdatable, Updatable}
 
 module _ (n : ℕ) (old demand sheet : List ℕ) where
   -- a cell as it was, and after the period
   abbrev before : ℕ → Cell
-  before i = record { count = countAt old i; queue = queueAt n old i }
+  before = cellAt n old
 
   abbrev after : ℕ → Cell
   after = cellAfter n old demand sheet
@@ -34,11 +35,7 @@ module _ (n : ℕ) (old demand sheet : List ℕ) where
         asked = asked;
         reaches = omega arith;
         laid = laying-none n old (stateColumns after) (λ k below meant. omega arith) (omega (arith, asked .state-length));
-        kept =
-            record {
-              len = omega (arith, asked .state-length);
-              filled = (λ k below meant. refl, (λ k below meant. refl, tt));
-            };
+        kept = as-it-stands n old (asked .state-length);
         entry = refl;
       }
 
@@ -46,11 +43,14 @@ module _ (n : ℕ) (old demand sheet : List ℕ) where
     inside : i - 1 < n
     inside = omega (arith, so .reaches)
 
+    same-cell : cellAt n now (i - 1) ≡ cellAt n old (i - 1)
+    same-cell = cell-is n now before (so .kept) (i - 1) inside (omega arith)
+
     same-count : countAt now (i - 1) ≡ countAt old (i - 1)
-    same-count = so .kept .filled .0 (i - 1) inside (omega arith)
+    same-count = ap (λ cell. cell .count) same-cell
 
     same-queue : queueAt n now (i - 1) ≡ queueAt n old (i - 1)
-    same-queue = so .kept .filled .1 .0 (i - 1) inside (omega arith)
+    same-queue = ap (λ cell. cell .queue) same-cell
 
     -- the next cell up the road can be brought up to date
     pub cell-asks : CellUpdatable n now demand sheet (i - 1)
@@ -68,7 +68,6 @@ module _ (n : ℕ) (old demand sheet : List ℕ) where
         }
 
     pub goes-on : {now′ : List ℕ} {cell : Cell} → cell ≡ cellAfter n now demand sheet (i - 1) → now′ ≡ withCell n now (i - 1) cell → UpdatedFrom now′ (i - 1)
-    unfolding withCell
     goes-on {cell = cell} is stored =
         let own : cell ≡ after (i - 1) = is ∙ rw (same-count, same-queue) in
         record {
@@ -76,11 +75,11 @@ module _ (n : ℕ) (old demand sheet : List ℕ) where
           reaches = omega (arith, so .reaches);
           laid =
               rw stored
-              (laying-cell n now (stateColumns after) (so .laid) inside refl (λ k meant other. omega (arith, other)) (λ _. ap (λ x. x .count ∷ x .queue ∷ []) own));
+              (cell-stored n now after (so .laid) inside (λ k meant other. omega (arith, other)) (λ _. own));
           kept =
               rw stored
-              (laying-cell n now (stateColumns before) {values = cell .count ∷ cell .queue ∷ []} (so .kept) inside refl (λ k meant other. omega arith) (λ meant. absurd (omega arith)));
-          entry = ap entryQueue stored ∙ stored-entry n (i - 1) (cell .count ∷ cell .queue ∷ []) now ∙ so .entry;
+              (cell-stored n now before (so .kept) inside (λ k meant other. omega arith) (λ meant. absurd (omega arith)));
+          entry = ap entryQueue stored ∙ entry-stays n now (i - 1) cell ∙ so .entry;
         }
 
   -- with Q the state is whole

@@ -22,7 +22,7 @@ use layout::*;
 
 // F of the cell of index i, as it holds now.
 fn capacity_now(table: &[u32], state: &[u32], i: usize) -> u32
-    requires { ⌜ i < cells (now table) ⌝ }
+    requires { ⌜ Sendable (corridorOf (now table) (now state)) i ⌝ }
     ensures { λ r. ⌜ r ≡ capacityNow (corridorOf (now (table .entry)) (now (state .entry))) i ⌝ }
 {
     row_at(table, i).capacity

@@ -14,7 +14,8 @@ use Rattle.layout.specs.declared.Cell.{Cell}
 use Rattle.layout.specs.Laid.{withEntry}
 use Rattle.layout.specs.Layout.{MOST, cells, rowAt, stateLength, stateColumns, stateOf, withCell}
 use Rattle.layout.specs.Corridor.{Corridor, rowOf, entryQueueOf, countOf}
-use Rattle.layout.proofs.Laid.{Laying, laying-none, laying-cell, laying-whole}
+use Rattle.layout.proofs.Laid.{Laying, laying-none, laying-whole}
+use Rattle.layout.proofs.States.{cell-stored}
 use Rattle.recut.specs.declared.Piece.{Piece}
 use Rattle.recut.specs.Pieces.{pieceCount, nextPiece, pieceAt}
 use Rattle.recut.specs.Recut.{pieceCell, newCell, newState}
@@ -85,7 +86,7 @@ module _ {old : Corridor} {pieces new list : List ℕ} {piece : Piece} {n given 
 
     -- one more, as the loop meets it
     pub goes-on : {list′ : List ℕ} {given′ : ℕ} {cell : Cell} {piece′ : Piece} → cell ≡ pieceCell old piece (row .jam) → list′ ≡ withCell n list j cell → piece′ ≡ nextPiece pieces piece (row .jam) → given′ ≡ pick (eqb (piece′ .number) 0) 0 (given + cell .count) → Cutting old pieces new n list′ piece′ given′ (j + 1)
-    unfolding pieceAt withCell
+    unfolding pieceAt
     goes-on {cell = cell} cell-is put next gives =
         record {
           known = at .known;
@@ -95,8 +96,7 @@ module _ {old : Corridor} {pieces new list : List ℕ} {piece : Piece} {n given 
           given-is = gives ∙ rw (next, cell-is) (gives-on work (at .given-is) pieces);
           laid =
               rw (put, at .all)
-              (laying-cell (cells new) list (stateColumns (newCell old pieces new)) (at .laid) below refl (λ k below other. omega arith)
-              (λ _. ap (λ c. c .count ∷ c .queue ∷ []) (cell-is ∙ rw (row-is, at .piece-is))));
+              (cell-stored (cells new) list (newCell old pieces new) (at .laid) below (λ k below other. omega arith) (λ _. cell-is ∙ rw (row-is, at .piece-is)));
         }
 
   -- with Q the state is whole

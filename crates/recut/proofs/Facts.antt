@@ -151,7 +151,7 @@ module _ (old : Corridor) (pieces new : List ℕ) (known : CutFits old pieces ne
         state-length = known .state-length;
         inside = the-piece .cell-is;
         some = known .old-fits .rows (piece .cell) (the-piece .cell-is) .jam .least;
-        held = known .state-fits-it .counts (piece .cell) (the-piece .cell-is);
+        held = known .state-fits-it .cells (piece .cell) (the-piece .cell-is) .count;
         within =
             omega
             (arith, jams-with, known .each (piece .cell) (the-piece .cell-is) .jams, sum-grows (piece .number + 1) all (λ m. rowAt new (first + m) .jam) (omega (arith, the-piece .number-is)));

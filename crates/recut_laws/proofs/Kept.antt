@@ -16,9 +16,10 @@ use Rattle.refusals.specs.declared.Answer.the-variants.{Accepted}
 use Rattle.refusals.specs.Checks.{answer}
 use Rattle.refusals.proofs.Answers.{both-accepted, passes-accepted}
 use Rattle.layout.specs.Layout.{cells, rowAt, stateLength}
-use Rattle.layout.specs.Corridor.{Corridor, cellsOf, rowOf, entryQueueOf, countOf, queueOf}
+use Rattle.layout.specs.Corridor.{Corridor, cellsOf, rowOf, entryQueueOf, countOf, queueOf, cellOf}
 use Rattle.layout.proofs.Readers.{state-length, state-entry, state-count, state-queue}
 use Rattle.accept_ranges.specs.Ranges.{withRamp, queueLimit}
+use Rattle.accept_ranges.proofs.Ranges.{fits-cell}
 use Rattle.accept_tables.specs.Tables.{tableNumbers}
 use Rattle.accept_rows.specs.Acceptance.{stateInRange, stateNumbers}
 use Rattle.accept_rows.specs.Vehicles.{vehicles, atOnRamp, atOffRamp, present, rampsTo, ramps}
@@ -193,16 +194,15 @@ module _ (old : Corridor) (pieces new : List ℕ) (known : CutFits old pieces ne
   queue-stays-within j h = by (ℕ-discrete (piece j .number) 0)
     where
       by : Dec (piece j .number ≡ 0) → queueOf cut j ≤ withRamp (rowAt new j .on) queueLimit
-      by (yes e) = rw (first-queue j h e, first-has-on-ramp j h e .0) (known .state-fits-it .queues (piece j .cell) (on j h .cell-is))
+      by (yes e) = rw (first-queue j h e, first-has-on-ramp j h e .0) (known .state-fits-it .cells (piece j .cell) (on j h .cell-is) .queue)
       by (no other) = rw (other-queue j h other) zero-le
 
   stays-in-range : Passes (cells new + 1) (stateInRange cut .test)
   stays-in-range zero h = le-leb (entryQueueOf cut) queueLimit (omega (arith, new-entry, known .state-fits-it .entry))
   stays-in-range (suc j) h =
       let below : j < cells new = omega arith in
-      ap₂ (λ a b. a && b)
-      (le-leb (countOf cut j) (rowAt new j .jam) (piece-holds-at-most-its-jam j below))
-      (le-leb (queueOf cut j) (withRamp (rowAt new j .on) queueLimit) (queue-stays-within j below))
+      fits-cell (rowAt new j) (cellOf cut j)
+      (record { count = piece-holds-at-most-its-jam j below; queue = queue-stays-within j below })
 
   -- the new state is accepted under the new table
   pub new-state-is-accepted : answer (stateNumbers (newCorridor old pieces new)) ≡ Accepted

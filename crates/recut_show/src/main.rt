@@ -50,10 +50,10 @@ fn ten_periods(table: &[u32], state: &mut [u32], row: &[u32], sheet: &mut [u32])
     true
 }
 
-// Prints the state, and the vehicles in its cells and queues.
-fn show_state(word: &[u8], state: &[u32]) {
+// Prints the state of n cells, and the vehicles in its cells and queues.
+fn show_state(word: &[u8], n: usize, state: &[u32]) {
     show::list(word, state);
-    show::total(b", vehicles ", state);
+    show::vehicles(b", vehicles ", n, state);
 }
 
 // Prints the ramp numbers along the road, the on-ramp and the off-ramp of each cell; 0 is no ramp.
@@ -76,7 +76,7 @@ fn main() {
     io::write_all(1, b"\n");
     show_ramps(&OLD);
     ten_periods(&OLD, &mut state, &[800, 600, 0], &mut sheet);
-    show_state(b"after ten periods: Q n q", &state);
+    show_state(b"after ten periods: Q n q", 1, &state);
     show::list(b"sheet (entry f s r mode):", &sheet);
     io::write_all(1, b"\n");
     let mut cut = [0u32; 7];
@@ -85,10 +85,10 @@ fn main() {
     show_ramps(&NEW);
     io::write_all(1, b"cut into three: ");
     show::answer(recut::recut(&OLD, &state, &[3], &NEW, &mut cut));
-    show_state(b"shares: Q n n n q q q", &cut);
+    show_state(b"shares: Q n n n q q q", 3, &cut);
     let mut new_sheet = [0u32; 13];
     ten_periods(&NEW, &mut cut, &[800, 600, 0, 0, 0, 0, 0], &mut new_sheet);
-    show_state(b"after ten more: Q n n n q q q", &cut);
+    show_state(b"after ten more: Q n n n q q q", 3, &cut);
     show::list(b"sheet (entry, f, s, r, modes):", &new_sheet);
     io::write_all(1, b"\n");
 }

@@ -1,4 +1,8 @@
 // What the programs print: answers and lists of numbers.
+use layout::count_at;
+use layout::entry_queue;
+use layout::queue_at;
+use layout::state_length;
 use refusals::Answer;
 
 // Prints an answer and ends the line: accepted, or the refusal's number and place.
@@ -28,15 +32,18 @@ pub fn list(word: &[u8], list: &[u32]) {
     }
 }
 
-// Prints a word, the sum of a list of at most 4,096 numbers, and ends the line; of a longer one, nothing.
-pub fn total(word: &[u8], list: &[u32]) {
-    if 4_096 < list.len() {
+// Prints a word, the vehicles in the cells and queues of a state of n cells, and ends the line; of more than 512 cells, or another length, nothing.
+pub fn vehicles(word: &[u8], n: usize, state: &[u32]) {
+    if 512 < n {
         return;
     }
-    let mut sum: u64 = 0;
+    if state.len() != state_length(n) {
+        return;
+    }
+    let mut sum = entry_queue(state) as u64;
     let mut i = 0;
-    while i < list.len() {
-        sum += list[i] as u64;
+    while i < n {
+        sum += (count_at(state, i) as u64) + (queue_at(n, state, i) as u64);
         i += 1;
     }
     io::write_all(1, word);

@@ -33,8 +33,8 @@ queues-hold-requires : tie.Need-queues-hold-requires
 queues-hold-requires c κs =
     let start = c .before .before .before .before .before .before .before .before .before in
     let table = start .args .table .now in
-    let queues = state-fits (corridorOf table (start .args .state .now)) (start .pre .1 .1) .queues in
-    rw (c .cells .ensures) (long start, λ i h. omega (arith, queues i h, with-ramp-at-most (rowAt table i .on) queueLimit))
+    let queues = state-fits (corridorOf table (start .args .state .now)) (start .pre .1 .1) .cells in
+    rw (c .cells .ensures) (long start, λ i h. omega (arith, queues i h .queue, with-ramp-at-most (rowAt table i .on) queueLimit))
 
 returns : tie.Need-returns
 returns c =

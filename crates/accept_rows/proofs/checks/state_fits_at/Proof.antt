@@ -9,9 +9,9 @@ returns c = rw (c .before .if1 .taken, c .entry-queue .ensures)
 
 returns-2 : tie.Need-returns-2
 returns-2 c =
-    rw (at-cell, c .before .before .before .before .before .if1 .left)
+    rw (at-cell, c .before .before .before .before .if1 .left)
     (rw
-    (c .before .before .before .before .row-at .ensures, c .before .before .before .count-at .ensures, c .before .queue-at .ensures, c .before .before .cells .ensures)
+    (c .before .before .before .row-at .ensures, c .before .cell-at .ensures, c .before .before .cells .ensures)
     at
     (c .state-fits .ensures))
 
@@ -22,7 +22,6 @@ state-fits-at-spec =
     (λ c κs. search needs)
     returns
     (λ c. search needs)
-    (λ c κs. search needs)
     (λ c κs. search needs)
     (λ c κs. search needs)
     (λ c κs. search needs)
