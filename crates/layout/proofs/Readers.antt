@@ -1,12 +1,11 @@
 -- What stands where in a state, a demand row and a sheet that are laid out from their parts. Assumes nothing.
-use Prim.Native.Nat.{ℕ, suc, _+_, _<_}
+use Prim.Native.Nat.{ℕ, zero, suc, _+_, _≤_, _<_}
 use mathlib.Core.Path.{_≡_, refl}
 use native.Mathlib.Numerals.{one-add}
 use native.Mathlib.Omega.{arith}
 use lib.ListN.{length}
 use Rattle.layout.specs.declared.Cell.{Cell}
 use Rattle.layout.specs.declared.Demands.{Demands}
-use Rattle.layout.specs.declared.Flows.{Flows}
 use Rattle.layout.specs.Layout.{stateLength, entryQueue, countAt, queueAt, stateColumns, stateOf, demandLength, entryDemand, onDemandAt, offDemandAt, demandColumns, demandOf}
 use Rattle.layout.specs.Sheet.{sheetLength, flowIn, offFlowIn, onFlowIn, modeIn, sheetColumns, sheetFrom}
 use Rattle.layout.proofs.Laid.{laid-length, laid-filled}
@@ -45,27 +44,24 @@ module _ (n entry : ℕ) (demands : ℕ → Demands) where
   unfolding demandOf
   demand-off i h = laid-filled n entry (demandColumns demands) .1 .0 i h tt
 
-module _ (n entry : ℕ) (flows : ℕ → Flows) where
-  pub sheet-length : length (sheetFrom n entry flows) ≡ sheetLength n
+module _ (n : ℕ) (flow off on mode : ℕ → ℕ) where
+  pub sheet-length : length (sheetFrom n flow off on mode) ≡ sheetLength n
   unfolding sheetFrom
-  sheet-length = omega (arith, laid-length n entry (sheetColumns flows))
+  sheet-length = omega (arith, laid-length n (flow 0) (sheetColumns flow off on mode))
 
-  pub sheet-entry : flowIn (sheetFrom n entry flows) 0 ≡ entry
+  pub sheet-flow : (p : ℕ) → p ≤ n → flowIn (sheetFrom n flow off on mode) p ≡ flow p
   unfolding sheetFrom
-  sheet-entry = refl
+  sheet-flow zero h = refl
+  sheet-flow (suc i) h = rw one-add at (laid-filled n (flow 0) (sheetColumns flow off on mode) .0 i (omega arith) tt)
 
-  pub sheet-flow : (i : ℕ) → i < n → flowIn (sheetFrom n entry flows) (suc i) ≡ flows i .f
+  pub sheet-off : (i : ℕ) → i < n → offFlowIn n (sheetFrom n flow off on mode) i ≡ off i
   unfolding sheetFrom
-  sheet-flow i h = rw one-add at (laid-filled n entry (sheetColumns flows) .0 i h tt)
+  sheet-off i h = laid-filled n (flow 0) (sheetColumns flow off on mode) .1 .0 i h tt
 
-  pub sheet-off : (i : ℕ) → i < n → offFlowIn n (sheetFrom n entry flows) i ≡ flows i .s
+  pub sheet-on : (i : ℕ) → i < n → onFlowIn n (sheetFrom n flow off on mode) i ≡ on i
   unfolding sheetFrom
-  sheet-off i h = laid-filled n entry (sheetColumns flows) .1 .0 i h tt
+  sheet-on i h = laid-filled n (flow 0) (sheetColumns flow off on mode) .1 .1 .0 i h tt
 
-  pub sheet-on : (i : ℕ) → i < n → onFlowIn n (sheetFrom n entry flows) i ≡ flows i .r
+  pub sheet-mode : (i : ℕ) → i < n → modeIn n (sheetFrom n flow off on mode) i ≡ mode i
   unfolding sheetFrom
-  sheet-on i h = laid-filled n entry (sheetColumns flows) .1 .1 .0 i h tt
-
-  pub sheet-mode : (i : ℕ) → i < n → modeIn n (sheetFrom n entry flows) i ≡ flows i .mode
-  unfolding sheetFrom
-  sheet-mode i h = laid-filled n entry (sheetColumns flows) .1 .1 .1 .0 i h tt
+  sheet-mode i h = laid-filled n (flow 0) (sheetColumns flow off on mode) .1 .1 .1 .0 i h tt

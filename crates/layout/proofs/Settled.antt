@@ -56,8 +56,14 @@ use Rattle.layout.proofs.put_demands.Kinds as put-demands-kinds
 use Rattle.layout.proofs.put_demands.Reads as put-demands
 use Rattle.layout.proofs.put_entry.Kinds as put-entry-kinds
 use Rattle.layout.proofs.put_entry.Reads as put-entry
-use Rattle.layout.proofs.sheet.put_flows.Kinds as put-flows-kinds
-use Rattle.layout.proofs.sheet.put_flows.Reads as put-flows
+use Rattle.layout.proofs.sheet.put_flow.Kinds as put-flow-kinds
+use Rattle.layout.proofs.sheet.put_flow.Reads as put-flow
+use Rattle.layout.proofs.sheet.put_off_flow.Kinds as put-off-flow-kinds
+use Rattle.layout.proofs.sheet.put_off_flow.Reads as put-off-flow
+use Rattle.layout.proofs.sheet.put_on_flow.Kinds as put-on-flow-kinds
+use Rattle.layout.proofs.sheet.put_on_flow.Reads as put-on-flow
+use Rattle.layout.proofs.sheet.put_mode.Kinds as put-mode-kinds
+use Rattle.layout.proofs.sheet.put_mode.Reads as put-mode
 
 pub width-settles : Settles _ width-kinds.ps width-kinds.r width.Learnt
 width-settles κs a y z e f = settled
@@ -137,5 +143,14 @@ put-demands-settles κs a y z e f p q = (refl, settled p q)
 pub put-entry-settles : SettlesLists _ put-entry-kinds.ps put-entry-kinds.r (List ℕ) (λ κs e. now (e .0)) put-entry.Learnt
 put-entry-settles κs a y z e f p q = (refl, settled p q)
 
-pub put-flows-settles : SettlesLists _ put-flows-kinds.ps put-flows-kinds.r (List ℕ) (λ κs e. now (e .0)) put-flows.Learnt
-put-flows-settles κs a y z e f p q = (refl, settled p q)
+pub put-flow-settles : SettlesLists _ put-flow-kinds.ps put-flow-kinds.r (List ℕ) (λ κs e. now (e .0)) put-flow.Learnt
+put-flow-settles κs a y z e f p q = (refl, settled p q)
+
+pub put-off-flow-settles : SettlesLists _ put-off-flow-kinds.ps put-off-flow-kinds.r (List ℕ) (λ κs e. now (e .0)) put-off-flow.Learnt
+put-off-flow-settles κs a y z e f p q = (refl, settled p q)
+
+pub put-on-flow-settles : SettlesLists _ put-on-flow-kinds.ps put-on-flow-kinds.r (List ℕ) (λ κs e. now (e .0)) put-on-flow.Learnt
+put-on-flow-settles κs a y z e f p q = (refl, settled p q)
+
+pub put-mode-settles : SettlesLists _ put-mode-kinds.ps put-mode-kinds.r (List ℕ) (λ κs e. now (e .0)) put-mode.Learnt
+put-mode-settles κs a y z e f p q = (refl, settled p q)

@@ -1,9 +1,8 @@
 -- Document 01, "One period": where each number stands in a flow sheet of n cells: entry flow, then all f, all s, all r, all modes.
 use Prim.Native.Nat.{ℕ, suc, _+_, _*_}
 use mathlib.Core.List.{List, [], _∷_}
-use lib.ListN.{getD}
-use Rattle.layout.specs.declared.Flows.{Flows}
-use Rattle.layout.specs.Laid.{laid, stored}
+use lib.ListN.{getD, set}
+use Rattle.layout.specs.Laid.{laid}
 
 abbrev pub sheetLength : ℕ → ℕ
 sheetLength n = 4 * n + 1
@@ -21,13 +20,22 @@ onFlowIn n sheet i = getD sheet (1 + n + n + i) 0
 abbrev pub modeIn : ℕ → List ℕ → ℕ → ℕ
 modeIn n sheet i = getD sheet (1 + n + n + n + i) 0
 
-abbrev pub sheetColumns : (ℕ → Flows) → List (ℕ → ℕ)
-sheetColumns flows = (λ i. flows i .f) ∷ (λ i. flows i .s) ∷ (λ i. flows i .r) ∷ (λ i. flows i .mode) ∷ []
+abbrev pub sheetColumns : (ℕ → ℕ) → (ℕ → ℕ) → (ℕ → ℕ) → (ℕ → ℕ) → List (ℕ → ℕ)
+sheetColumns flow off on mode = (λ i. flow (suc i)) ∷ off ∷ on ∷ mode ∷ []
 
--- the sheet with this entry flow and what each cell does
-unfoldable pub sheetFrom : ℕ → ℕ → (ℕ → Flows) → List ℕ
-sheetFrom n entry flows = laid n entry (sheetColumns flows)
+-- the sheet with the flow out of each position, and s, r and the mode of each cell
+unfoldable pub sheetFrom : ℕ → (ℕ → ℕ) → (ℕ → ℕ) → (ℕ → ℕ) → (ℕ → ℕ) → List ℕ
+sheetFrom n flow off on mode = laid n (flow 0) (sheetColumns flow off on mode)
 
--- the sheet with what the cell of index i does stored
-unfoldable pub withFlows : ℕ → List ℕ → ℕ → Flows → List ℕ
-withFlows n sheet i flows = stored n 1 i (flows .f ∷ flows .s ∷ flows .r ∷ flows .mode ∷ []) sheet
+-- the sheet with one number stored
+abbrev pub withFlow : List ℕ → ℕ → ℕ → List ℕ
+withFlow sheet position f = set sheet position f
+
+abbrev pub withOffFlow : ℕ → List ℕ → ℕ → ℕ → List ℕ
+withOffFlow n sheet i s = set sheet (1 + n + i) s
+
+abbrev pub withOnFlow : ℕ → List ℕ → ℕ → ℕ → List ℕ
+withOnFlow n sheet i r = set sheet (1 + n + n + i) r
+
+abbrev pub withMode : ℕ → List ℕ → ℕ → ℕ → List ℕ
+withMode n sheet i mode = set sheet (1 + n + n + n + i) mode

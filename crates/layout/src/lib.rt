@@ -33,14 +33,6 @@ pub struct Demands {
     pub off: u32,
 }
 
-// What one cell does in a period: flow out f, off-ramp s, on-ramp r, and the mode.
-pub struct Flows {
-    pub f: u32,
-    pub s: u32,
-    pub r: u32,
-    pub mode: u32,
-}
-
 // The numbers of a row.
 pub fn width() -> usize
     ensures { λ r. ⌜ r ≡ WIDTH ⌝ }

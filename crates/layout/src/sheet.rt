@@ -4,8 +4,7 @@ ghost use Prim.Native.Nat.{_+_, _*_, _<_};
 ghost use lib.ListN.{length};
 ghost use Rattle.layout.specs.Laid.{Space};
 ghost use Rattle.layout.specs.Layout.{Listed, MOST};
-ghost use Rattle.layout.specs.Sheet.{sheetLength, flowIn, offFlowIn, onFlowIn, modeIn, withFlows};
-use crate::Flows;
+ghost use Rattle.layout.specs.Sheet.{sheetLength, flowIn, offFlowIn, onFlowIn, modeIn, withFlow, withOffFlow, withOnFlow, withMode};
 
 pub fn sheet_length(n: usize) -> usize
     requires { ⌜ Listed n ⌝ }
@@ -50,13 +49,32 @@ pub fn mode_in(n: usize, sheet: &[u32], i: usize) -> u32
     sheet[1 + n + n + n + i]
 }
 
-// Stores what the cell of index i does.
-pub fn put_flows(sheet: &mut [u32], n: usize, i: usize, flows: Flows)
-    requires { ⌜ (i < n) × (length (now sheet) ≡ sheetLength n) ⌝ }
-    ensures { λ _. ⌜ now (sheet .exit) ≡ withFlows n (now (sheet .entry)) i flows ⌝ }
+// The writers store one number each.
+
+pub fn put_flow(sheet: &mut [u32], position: usize, f: u32)
+    requires { ⌜ position < length (now sheet) ⌝ }
+    ensures { λ _. ⌜ now (sheet .exit) ≡ withFlow (now (sheet .entry)) position f ⌝ }
 {
-    sheet[1 + i] = flows.f;
-    sheet[1 + n + i] = flows.s;
-    sheet[1 + n + n + i] = flows.r;
-    sheet[1 + n + n + n + i] = flows.mode;
+    sheet[position] = f;
+}
+
+pub fn put_off_flow(sheet: &mut [u32], n: usize, i: usize, s: u32)
+    requires { ⌜ 1 + n + i < length (now sheet) ⌝ }
+    ensures { λ _. ⌜ now (sheet .exit) ≡ withOffFlow n (now (sheet .entry)) i s ⌝ }
+{
+    sheet[1 + n + i] = s;
+}
+
+pub fn put_on_flow(sheet: &mut [u32], n: usize, i: usize, r: u32)
+    requires { ⌜ 1 + n + n + i < length (now sheet) ⌝ }
+    ensures { λ _. ⌜ now (sheet .exit) ≡ withOnFlow n (now (sheet .entry)) i r ⌝ }
+{
+    sheet[1 + n + n + i] = r;
+}
+
+pub fn put_mode(sheet: &mut [u32], n: usize, i: usize, mode: u32)
+    requires { ⌜ 1 + n + n + n + i < length (now sheet) ⌝ }
+    ensures { λ _. ⌜ now (sheet .exit) ≡ withMode n (now (sheet .entry)) i mode ⌝ }
+{
+    sheet[1 + n + n + n + i] = mode;
 }

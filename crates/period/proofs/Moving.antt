@@ -13,7 +13,8 @@ use Rattle.period.specs.Period.{RowAccepted, flowAt, offFlowAt, onFlowAt
 use Rattle.period.specs.Private.{CellUpdatable, Updatable}
 use Rattle.period.specs.Fair.{Fair}
 use Rattle.period.proofs.Facts.{Facts, facts}
-use Rattle.period.proofs.Laws.{flow-of-offer, what-leaves-is-in-the-cell, what-comes-fits, ramp-of-queue}
+use Rattle.period.proofs.Laws.{what-leaves-is-in-the-cell, what-comes-fits, ramp-of-queue}
+use Rattle.period.proofs.Nodes.{flow-of-offer}
 use Rattle.period.proofs.Reading.{of-length, of-flow, of-off, of-on}
 
 module _ (way : Sharing) (fair : Fair way) (c : Corridor) (demand : List ℕ) (known : Facts c demand) where
@@ -48,7 +49,7 @@ module _ (way : Sharing) (fair : Fair way) (c : Corridor) (demand : List ℕ) (k
         sheet-length = of-length way c demand;
         each = cell-updatable;
         waits = known .d .entry-holds;
-        enters = rw (of-flow way c demand 0 (omega arith)) (flow-of-offer way fair c demand (known .t) (known .s) (known .d) 0);
+        enters = rw (of-flow way c demand 0 (omega arith)) (flow-of-offer way fair c demand 0);
       }
 
 pub can-move-on : (way : Sharing) (c : Corridor) (demand : List ℕ) {sheet : List ℕ} {n : ℕ} → Fair way → RowAccepted c demand → sheet ≡ sheetOf way c demand → n ≡ cellsOf c → Updatable n (c .state) demand sheet

@@ -1,87 +1,100 @@
--- What passes at each node, as the code meets it: what each cell sends by what the cell downstream of it opens. Assumes nothing.
-use Prim.Native.Nat.{ℕ, suc, _+_, _≤_, _<_, min}
-use mathlib.Core.Path.{_≡_, refl, sym, ap, _∙_}
-use mathlib.Core.Bool.{Bool, true, false, _&&_}
+-- What passes at each node, and what each position sends there. Assumes nothing.
+use Prim.Native.Nat.{ℕ, suc, _≤_, _<_}
+use mathlib.Core.Path.{_≡_, _∙_}
+use mathlib.Core.Bool.{Bool, true, false}
 use mathlib.Core.List.{List}
 use native.Mathlib.Omega.{arith}
-use borrow.Author.Tests.{lt-ltb, le-ltb, ltb-true, ltb-false}
+use borrow.Author.Tests.{lt-ltb, le-ltb}
 use lib.Dec.{ltb}
 use Rattle.whole.specs.Search.{pick}
 use Rattle.layout.specs.declared.Row.{Row}
-use Rattle.layout.specs.declared.Flows.{Flows}
-use Rattle.layout.specs.Layout.{entryDemand, offDemandAt}
-use Rattle.layout.specs.Corridor.{Corridor, cellsOf, rowOf, entryQueueOf, countOf}
-use Rattle.period.specs.declared.Onward.{Onward}
-use Rattle.period.specs.declared.Opening.{Opening}
-use Rattle.period.specs.declared.Sent.{Sent}
-use Rattle.period.specs.Sharing.{Sharing, asymmetric}
-use Rattle.period.specs.Cell.{M}
-use Rattle.period.specs.Period.{offerAt, rampOfferAt, nodeAt, flowAt, offFlowAt, modeAt, flowsAt}
-use Rattle.period.specs.Private.{openOf, passedBy, onwardOf, sendsOf, pastTheLast, ownAt, Sendable, Workable}
+use Rattle.layout.specs.Layout.{offDemandAt}
+use Rattle.layout.specs.Sheet.{withFlow, withOffFlow, withOnFlow, withMode}
+use Rattle.layout.specs.Corridor.{Corridor, cellsOf, rowOf, countOf}
+use Rattle.period.specs.declared.Passed.{Passed}
+use Rattle.period.specs.Cell.{M, offFlow, modeOf}
+use Rattle.period.specs.Sharing.{Sharing}
+use Rattle.period.specs.Fair.{Fair}
+use Rattle.period.specs.Period.{capacityNow, sentAt, offerAt, rampOfferAt, nodeAt, flowAt, offFlowAt, modeAt}
+use Rattle.period.specs.Private.{nodePassed, cellSent, cellPassed, lastPassed, Workable}
 use Rattle.period.proofs.Fair.{sends-what-it-has}
 
--- the flow into a cell is what passes at its node
-pub flow-in-is : (way : Sharing) (c : Corridor) (demand : List ℕ) (i : ℕ) → i < cellsOf c → flowAt way c demand i ≡ nodeAt way c demand i .main
-unfolding flowAt
-flow-in-is way c demand i h = rw (lt-ltb i (cellsOf c) h)
+module _ (way : Sharing) (c : Corridor) (demand : List ℕ) where
+  -- the flow into a cell is what passes at its node; past the last cell the offer passes whole
+  pub flow-in-is : (i : ℕ) → i < cellsOf c → flowAt way c demand i ≡ nodeAt way c demand i .main
+  unfolding flowAt
+  flow-in-is i h = rw (lt-ltb i (cellsOf c) h)
 
--- where M is below F, whether it is below the least of F and R is whether it is below R
-least-of-both : (m capacity room : ℕ) → m < capacity → ltb m (min capacity room) ≡ ltb m room
-least-of-both m capacity room h = by (ltb m room) refl
-  where
-    by : (free : Bool) → ltb m room ≡ free → ltb m (min capacity room) ≡ ltb m room
-    by true f = let k = ltb-true m room f in lt-ltb m (min capacity room) (omega arith) ∙ sym f
-    by false f = let k = ltb-false m room f in le-ltb m (min capacity room) (omega arith) ∙ sym f
+  pub last-flow-is : (p : ℕ) → cellsOf c ≤ p → flowAt way c demand p ≡ offerAt c demand p
+  unfolding flowAt
+  last-flow-is p h = rw (le-ltb p (cellsOf c) h)
 
--- M < F and a < R, with a the least of M and F, is M < min(F, R): document 01's step 7
-pub free-is : (m capacity room : ℕ) → ltb m (min capacity room) ≡ (ltb m capacity && ltb (min m capacity) room)
-free-is m capacity room = by (ltb m capacity) refl
-  where
-    by : (below : Bool) → ltb m capacity ≡ below → ltb m (min capacity room) ≡ (below && ltb (min m capacity) room)
-    by true e =
-        let h = ltb-true m capacity e in
-        let same : min m capacity ≡ m = omega arith in
-        rw same (least-of-both m capacity room h)
-    by false e = let h = ltb-false m capacity e in le-ltb m (min capacity room) (omega arith)
+  -- the mode is by the node downstream; past the last cell all is clear
+  pub mode-is : (i : ℕ) → suc i < cellsOf c → modeAt way c demand i ≡ modeOf (sentAt c demand i) (capacityNow c i) (nodeAt way c demand (suc i) .clear)
+  unfolding modeAt
+  mode-is i h = rw (lt-ltb (suc i) (cellsOf c) h)
 
--- what a cell opens to its on-ramp is what the on-ramp gets, whatever the mainline offers
-pub opens-to-ramp : (c : Corridor) (demand : List ℕ) (i : ℕ) {opening : Opening} → opening ≡ openOf (rowOf c i) (countOf c i) (rampOfferAt c demand i) → opening .ramp ≡ nodeAt asymmetric c demand i .ramp
-unfolding nodeAt
-opens-to-ramp c demand i e = ap (λ o. o .ramp) e
+  pub last-mode-is : (i : ℕ) → cellsOf c ≤ suc i → modeAt way c demand i ≡ modeOf (sentAt c demand i) (capacityNow c i) true
+  unfolding modeAt
+  last-mode-is i h = rw (le-ltb (suc i) (cellsOf c) h)
 
--- what the entry sends
-pub entry-is : (c : Corridor) (demand : List ℕ) {n a flow : ℕ} {opening : Opening} → Workable n c demand 0 → a ≡ entryQueueOf c + entryDemand demand → opening ≡ openOf (rowOf c 0) (countOf c 0) (rampOfferAt c demand 0) → flow ≡ passedBy a opening .main → flow ≡ flowAt asymmetric c demand 0
-unfolding nodeAt
-entry-is c demand known a opening flow =
-    flow ∙ rw (opening, a, flow-in-is asymmetric c demand 0 (omega (arith, known .all, known .inside)))
+  -- what passes, by what is read of the receiving cell and offered to it
+  pub node-is : (p : ℕ) {n a e : ℕ} {row : Row} {passed : Passed} → row ≡ rowOf c p → n ≡ countOf c p → a ≡ offerAt c demand p → e ≡ rampOfferAt c demand p → passed ≡ way row n a e → passed ≡ nodeAt way c demand p
+  unfolding nodeAt
+  node-is p row n a e passed = passed ∙ rw (row, n, a, e)
 
--- what the last cell sends: its offer passes whole
-pub last-is : (c : Corridor) (demand : List ℕ) {i n o : ℕ} {own : Sent} → Workable n c demand i → suc i ≡ n → o ≡ offDemandAt n demand i → own ≡ sendsOf c i o pastTheLast → own ≡ ownAt asymmetric c demand i
-unfolding flowAt offFlowAt modeAt sendsOf
-last-is c demand {i} known last o own =
-    let bound = known .capacity in
-    let whole : min (offerAt c demand (suc i)) 4_294_967_296 ≡ offerAt c demand (suc i) = omega arith in
-    own
-    ∙ rw
-    (o, known .all, le-ltb (suc i) (cellsOf c) (omega (arith, known .all)), whole, lt-ltb (offerAt c demand (suc i)) 4_294_967_296 (omega arith))
+  module _ (n : ℕ) (sheet : List ℕ) where
+    -- what passes at a node is stored
+    pub node-stored : {p : ℕ} {before after : List ℕ} {passed : Passed} → p < cellsOf c → passed ≡ nodeAt way c demand p → before ≡ withFlow sheet p (passed .main) → after ≡ withOnFlow n before p (passed .ramp) → after ≡ nodePassed way c demand n sheet p
+    unfolding nodePassed
+    node-stored {p} h is before after = after ∙ rw (before, is, flow-in-is p h)
 
--- what any other cell sends
-pub upstream-is : (c : Corridor) (demand : List ℕ) {i h n o : ℕ} {own : Sent} {opening : Opening} → Workable n c demand i → i ≡ suc h → o ≡ offDemandAt n demand h → opening ≡ openOf (rowOf c i) (countOf c i) (rampOfferAt c demand i) → own ≡ sendsOf c h o opening → own ≡ ownAt asymmetric c demand h
-unfolding nodeAt flowAt offFlowAt modeAt sendsOf
-upstream-is c demand {h = h} known below o opening own =
-    own ∙ rw (opening, below, o, known .all, lt-ltb (suc h) (cellsOf c) (omega (arith, known .all, known .inside)))
+    -- and then the mode of the cell upstream
+    pub mode-stored : {i m capacity mode : ℕ} {before after : List ℕ} {passed : Passed} → suc i < cellsOf c → m ≡ sentAt c demand i → capacity ≡ capacityNow c i → passed ≡ nodeAt way c demand (suc i) → before ≡ nodePassed way c demand n sheet (suc i) → mode ≡ modeOf m capacity (passed .clear) → after ≡ withMode n before i mode → after ≡ cellSent way c demand n sheet i
+    unfolding cellSent
+    mode-stored {i} h m capacity is before mode after = after ∙ rw (mode, before, is, m, capacity, mode-is i h)
 
--- what is stored of a cell
-pub does : (c : Corridor) (demand : List ℕ) (i : ℕ) {own : Sent} {opening : Opening} → own ≡ ownAt asymmetric c demand i → opening ≡ openOf (rowOf c i) (countOf c i) (rampOfferAt c demand i) → _≡_ {A = Flows} (record { f = own .f; s = own .s; r = opening .ramp; mode = own .mode }) (flowsAt asymmetric c demand i)
-does c demand i own opening = rw (own, opens-to-ramp c demand i opening)
+    -- and its s
+    pub off-stored : (i : ℕ) {s : ℕ} {before after : List ℕ} → s ≡ offFlowAt way c demand i → before ≡ cellSent way c demand n sheet i → after ≡ withOffFlow n before i s → after ≡ cellPassed way c demand n sheet i
+    unfolding cellPassed
+    off-stored i s before after = after ∙ rw (s, before)
 
--- the least of F and the room settles the flow out of a cell and its mode
-pub onward-is : (m capacity : ℕ) (opening : Opening) {limit f mode : ℕ} → limit ≡ min capacity (opening .main) → f ≡ min m limit → mode ≡ pick (ltb m limit) 0 1 → _≡_ {A = Onward} (record { f = f; mode = mode }) (onwardOf m capacity opening)
-onward-is m capacity opening limit f mode =
-    let same : min m (min capacity (opening .main)) ≡ min (min m capacity) (opening .main) = omega arith in
-    rw (mode, f, limit, same, free-is m capacity (opening .main))
+    -- what the last cell sends
+    pub last-stored : {i m capacity mode s : ℕ} {flowed moded after : List ℕ} {f : ℕ} → cellsOf c ≤ suc i → m ≡ sentAt c demand i → capacity ≡ capacityNow c i → f ≡ flowAt way c demand (suc i) → mode ≡ modeOf m capacity true → s ≡ offFlowAt way c demand i → flowed ≡ withFlow sheet (suc i) f → moded ≡ withMode n flowed i mode → after ≡ withOffFlow n moded i s → after ≡ lastPassed way c demand n sheet i
+    unfolding lastPassed
+    last-stored {i} h m capacity f mode s flowed moded after =
+        after ∙ rw (moded, flowed, s, mode, f, m, capacity, last-mode-is i h)
 
--- a flow that passes at the node downstream of a cell is in the cell
-pub onward-fits : {c : Corridor} {i count m : ℕ} {row : Row} {onward : Onward} (o capacity : ℕ) (opening : Opening) → Sendable c i → row ≡ rowOf c i → count ≡ countOf c i → m ≡ M row count o → onward ≡ onwardOf m capacity opening → (row .b < 65_536) × (onward .f ≤ count)
-onward-fits {c} {i} o capacity opening known row count m onward =
-    rw (onward, m, row, count) (known .b, omega (arith, sends-what-it-has (rowOf c i) (countOf c i) o (known .v)))
+module _ (way : Sharing) (fair : Fair way) (c : Corridor) (demand : List ℕ) where
+  -- no position sends more than it offers
+  pub flow-of-offer : (p : ℕ) → flowAt way c demand p ≤ offerAt c demand p
+  unfolding flowAt nodeAt
+  flow-of-offer p = by (ltb p (cellsOf c)) _ _
+    where
+      by : (inside : Bool) (n e : ℕ) → pick inside (way (rowOf c p) n (offerAt c demand p) e .main) (offerAt c demand p) ≤ offerAt c demand p
+      by true n e = fair .mainline-of-offer _ _ _ _
+      by false n e = omega arith
+
+  -- f is at most n
+  pub flow-is-in-the-cell : (i : ℕ) → rowOf c i .v ≤ 65_536 → flowAt way c demand (suc i) ≤ countOf c i
+  flow-is-in-the-cell i h =
+      omega
+      (arith, flow-of-offer (suc i), sends-what-it-has (rowOf c i) (countOf c i) (offDemandAt (cellsOf c) demand i) h)
+
+-- What is read of a cell serves for the cell.
+module _ {n i count : ℕ} {c : Corridor} {demand : List ℕ} {row : Row} (known : Workable n c demand i) (is-row : row ≡ rowOf c i) (is-count : count ≡ countOf c i) where
+  pub v-fits : row .v ≤ 65_536
+  v-fits = rw is-row (known .v)
+
+  pub b-fits : row .b < 65_536
+  b-fits = rw is-row (known .b)
+
+  pub sent-is : {o m : ℕ} → o ≡ offDemandAt n demand i → m ≡ M row count o → m ≡ sentAt c demand i
+  sent-is o m = m ∙ rw (is-row, is-count, o, known .all)
+
+  pub off-flow-is : (way : Sharing) {o f s : ℕ} → o ≡ offDemandAt n demand i → f ≡ flowAt way c demand (suc i) → s ≡ offFlow row count o f → s ≡ offFlowAt way c demand i
+  unfolding offFlowAt
+  off-flow-is way o f s = s ∙ rw (is-row, is-count, o, f, known .all)
+
+  pub is-in-the-cell : (way : Sharing) {f : ℕ} → Fair way → f ≡ flowAt way c demand (suc i) → f ≤ count
+  is-in-the-cell way fair f = rw (f, is-count) (flow-is-in-the-cell way fair c demand i (known .v))

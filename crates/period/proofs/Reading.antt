@@ -1,39 +1,38 @@
 -- What stands where in the sheet of a period and in the state after it. Assumes nothing.
-use Prim.Native.Nat.{ℕ, zero, suc, _+_, _-_, _≤_, _<_}
+use Prim.Native.Nat.{ℕ, suc, _+_, _-_, _≤_, _<_}
 use mathlib.Core.Path.{_≡_, ap, ap₂, _∙_}
 use mathlib.Core.List.{List}
 use native.Mathlib.Numerals.{add-one}
 use native.Mathlib.Omega.{arith}
 use lib.ListN.{length}
-use Rattle.layout.specs.Layout.{stateLength, entryQueue, countAt, queueAt, entryDemand, onDemandAt}
+use Rattle.layout.specs.Layout.{stateLength, entryDemand, onDemandAt}
 use Rattle.layout.specs.Sheet.{sheetLength, flowIn, offFlowIn, onFlowIn, modeIn}
 use Rattle.layout.specs.Corridor.{Corridor, cellsOf, entryQueueOf, countOf, queueOf}
-use Rattle.layout.proofs.Readers.{state-length, state-entry, state-count, state-queue, sheet-length, sheet-entry, sheet-flow, sheet-off, sheet-on, sheet-mode}
+use Rattle.layout.proofs.Readers.{state-length, state-entry, state-count, state-queue, sheet-length, sheet-flow, sheet-off, sheet-on, sheet-mode}
 use Rattle.period.specs.Sharing.{Sharing}
 use Rattle.period.specs.Updated.{entryQueueAfter, cellAfter, updated}
-use Rattle.period.specs.Period.{flowAt, offFlowAt, onFlowAt, modeAt, flowsAt, sheetOf, stateAfter, corridorAfter}
+use Rattle.period.specs.Period.{flowAt, offFlowAt, onFlowAt, modeAt, sheetOf, stateAfter, corridorAfter}
 
 module _ (way : Sharing) (c : Corridor) (demand : List ℕ) where
   pub of-length : length (sheetOf way c demand) ≡ sheetLength (cellsOf c)
   unfolding sheetOf
-  of-length = sheet-length (cellsOf c) (flowAt way c demand 0) (flowsAt way c demand)
+  of-length = sheet-length (cellsOf c) (flowAt way c demand) (offFlowAt way c demand) (onFlowAt way c demand) (modeAt way c demand)
 
   pub of-flow : (p : ℕ) → p ≤ cellsOf c → flowIn (sheetOf way c demand) p ≡ flowAt way c demand p
   unfolding sheetOf
-  of-flow zero h = sheet-entry (cellsOf c) (flowAt way c demand 0) (flowsAt way c demand)
-  of-flow (suc i) h = sheet-flow (cellsOf c) (flowAt way c demand 0) (flowsAt way c demand) i (omega arith)
+  of-flow = sheet-flow (cellsOf c) (flowAt way c demand) (offFlowAt way c demand) (onFlowAt way c demand) (modeAt way c demand)
 
   pub of-off : (i : ℕ) → i < cellsOf c → offFlowIn (cellsOf c) (sheetOf way c demand) i ≡ offFlowAt way c demand i
   unfolding sheetOf
-  of-off = sheet-off (cellsOf c) (flowAt way c demand 0) (flowsAt way c demand)
+  of-off = sheet-off (cellsOf c) (flowAt way c demand) (offFlowAt way c demand) (onFlowAt way c demand) (modeAt way c demand)
 
   pub of-on : (i : ℕ) → i < cellsOf c → onFlowIn (cellsOf c) (sheetOf way c demand) i ≡ onFlowAt way c demand i
   unfolding sheetOf
-  of-on = sheet-on (cellsOf c) (flowAt way c demand 0) (flowsAt way c demand)
+  of-on = sheet-on (cellsOf c) (flowAt way c demand) (offFlowAt way c demand) (onFlowAt way c demand) (modeAt way c demand)
 
   pub of-mode : (i : ℕ) → i < cellsOf c → modeIn (cellsOf c) (sheetOf way c demand) i ≡ modeAt way c demand i
   unfolding sheetOf
-  of-mode = sheet-mode (cellsOf c) (flowAt way c demand 0) (flowsAt way c demand)
+  of-mode = sheet-mode (cellsOf c) (flowAt way c demand) (offFlowAt way c demand) (onFlowAt way c demand) (modeAt way c demand)
 
   abbrev sheet : List ℕ
   sheet = sheetOf way c demand

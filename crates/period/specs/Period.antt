@@ -1,7 +1,7 @@
 -- Document 01, "One period": every flow from the state at the period's start, the sheet, and the state after.
 use Prim.Native.Nat.{ℕ, suc, _+_, min}
 use mathlib.Core.Path.{_≡_}
-use mathlib.Core.Bool.{Bool, true, _&&_}
+use mathlib.Core.Bool.{true, _&&_}
 use mathlib.Core.List.{List, _∷_, _++_}
 use lib.Dec.{ltb, eqb}
 use lib.ListN.{length}
@@ -10,13 +10,13 @@ use Rattle.whole.specs.Search.{pick}
 use Rattle.refusals.specs.declared.Answer.{Answer}
 use Rattle.refusals.specs.declared.Answer.the-variants.{Accepted}
 use Rattle.refusals.specs.Checks.{Check, answer, whenAccepted, lengths}
-use Rattle.layout.specs.declared.Flows.{Flows}
 use Rattle.layout.specs.Layout.{entryDemand, onDemandAt, offDemandAt}
 use Rattle.layout.specs.Sheet.{sheetLength, sheetFrom}
 use Rattle.layout.specs.Corridor.{Corridor, corridorOf, cellsOf, rowOf, entryQueueOf, countOf, queueOf}
 use Rattle.accept_rows.specs.Acceptance.{rowLengthsFit, stateNumbers, demandNumbers, rowChecks}
 use Rattle.period.specs.Cell.{M, offFlow, modeOf}
-use Rattle.period.specs.Sharing.{Passed, Sharing}
+use Rattle.period.specs.declared.Passed.{Passed}
+use Rattle.period.specs.Sharing.{Sharing}
 use Rattle.period.specs.Updated.{updated}
 
 -- F, the capacity that holds for a cell now, and c, the limit that holds for an on-ramp now
@@ -61,13 +61,9 @@ module _ (way : Sharing) (c : Corridor) (demand : List ℕ) where
   unfoldable pub modeAt : ℕ → ℕ
   modeAt i = modeOf (sentAt c demand i) (capacityNow c i) (pick (ltb (suc i) (cellsOf c)) (nodeAt (suc i) .clear) true)
 
-  -- what a cell does: f, s, r and the mode
-  abbrev pub flowsAt : ℕ → Flows
-  flowsAt i = record { f = flowAt (suc i); s = offFlowAt i; r = onFlowAt i; mode = modeAt i }
-
   -- the flow sheet
   unfoldable pub sheetOf : List ℕ
-  sheetOf = sheetFrom (cellsOf c) (flowAt 0) flowsAt
+  sheetOf = sheetFrom (cellsOf c) flowAt offFlowAt onFlowAt modeAt
 
   -- 6. the state after, and the corridor with it
   unfoldable pub stateAfter : List ℕ

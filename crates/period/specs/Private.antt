@@ -1,47 +1,33 @@
 -- Cited by private contracts and proofs alone: no public promise rests on this file.
 -- What the functions of a period ask of each other.
-use Prim.Native.Nat.{ℕ, suc, _+_, _-_, _≤_, _<_, min}
+use Prim.Native.Nat.{ℕ, suc, _+_, _≤_, _<_}
 use mathlib.Core.Path.{_≡_}
 use mathlib.Core.List.{List}
-use lib.Dec.{ltb}
 use lib.ListN.{length}
-use Rattle.whole.specs.Share.{share}
-use Rattle.layout.specs.declared.Row.{Row}
 use Rattle.layout.specs.Layout.{stateLength, entryQueue, countAt, queueAt, demandLength, entryDemand, onDemandAt}
-use Rattle.layout.specs.Sheet.{sheetLength, flowIn, offFlowIn, onFlowIn}
+use Rattle.layout.specs.Sheet.{sheetLength, flowIn, offFlowIn, onFlowIn, withFlow, withOffFlow, withOnFlow, withMode}
 use Rattle.layout.specs.Corridor.{Corridor, cellsOf, rowOf, countOf}
-use Rattle.period.specs.declared.Onward.{Onward}
-use Rattle.period.specs.declared.Opening.{Opening}
-use Rattle.period.specs.declared.Sent.{Sent}
-use Rattle.period.specs.Cell.{R, M, offFlow, modeOf}
-use Rattle.period.specs.Sharing.{Passed, Sharing}
-use Rattle.period.specs.Period.{capacityNow, flowAt, offFlowAt, modeAt}
+use Rattle.period.specs.Sharing.{Sharing}
+use Rattle.period.specs.Period.{capacityNow, flowAt, offFlowAt, onFlowAt, modeAt}
 
--- what a receiving cell opens at its node, and what passes of the mainline's offer a: the asymmetric way in two steps
-abbrev pub openOf : Row → ℕ → ℕ → Opening
-openOf r n e = record { main = R r n; ramp = min e (share (r .x) (r .jam - n)) }
+-- What the walk over the nodes leaves of a sheet of n cells.
+module _ (way : Sharing) (c : Corridor) (demand : List ℕ) (n : ℕ) (sheet : List ℕ) where
+  -- at the node upstream of the cell of index p: the flow out of the position p, and r
+  unfoldable pub nodePassed : ℕ → List ℕ
+  nodePassed p = withOnFlow n (withFlow sheet p (flowAt way c demand p)) p (onFlowAt way c demand p)
 
-abbrev pub passedBy : ℕ → Opening → Passed
-passedBy a opening = record { main = min a (opening .main); ramp = opening .ramp; clear = ltb a (opening .main) }
+  -- at the node downstream of the cell of index i: also the cell's mode
+  unfoldable pub cellSent : ℕ → List ℕ
+  cellSent i = withMode n (nodePassed (suc i)) i (modeAt way c demand i)
 
--- the flow out of a cell that would send m and has capacity F, and its mode, by what passes at the node downstream of it
-abbrev pub onwardOf : ℕ → ℕ → Opening → Onward
-onwardOf m capacity opening =
-    let passed = passedBy (min m capacity) opening in record { f = passed .main; mode = modeOf m capacity (passed .clear) }
+  -- of all that the cell of index i sends
+  unfoldable pub cellPassed : ℕ → List ℕ
+  cellPassed i = withOffFlow n (cellSent i) i (offFlowAt way c demand i)
 
--- what the cell of index i sends, whose off-ramp demand is o, where the cell downstream of it opens so much
-unfoldable pub sendsOf : Corridor → ℕ → ℕ → Opening → Sent
-sendsOf c i o opening =
-    let onward = onwardOf (M (rowOf c i) (countOf c i) o) (capacityNow c i) opening in
-    record { f = onward .f; s = offFlow (rowOf c i) (countOf c i) o (onward .f); mode = onward .mode }
-
--- past the last cell there is room for any flow
-abbrev pub pastTheLast : Opening
-pastTheLast = record { main = 4_294_967_296; ramp = 0 }
-
--- what the cell of index i sends in a period
-abbrev pub ownAt : Sharing → Corridor → List ℕ → ℕ → Sent
-ownAt way c demand i = record { f = flowAt way c demand (suc i); s = offFlowAt way c demand i; mode = modeAt way c demand i }
+  -- the same of the last cell, which has no node downstream of it
+  unfoldable pub lastPassed : ℕ → List ℕ
+  lastPassed i =
+      withOffFlow n (withMode n (withFlow sheet (suc i) (flowAt way c demand (suc i))) i (modeAt way c demand i)) i (offFlowAt way c demand i)
 
 -- what working out what the cell of index i sends asks of the corridor
 pub record Sendable (c : Corridor) (i : ℕ) : Type 0 where

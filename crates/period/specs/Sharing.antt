@@ -1,17 +1,12 @@
 -- Document 01, "One period", steps 3, 5 and 7, at one node: how the receiving cell, with its row and its count n, shares its room between
--- what the mainline offers, a, and what its on-ramp offers, e. Another way of sharing is another such function.
+-- what the mainline offers, a, and what its on-ramp offers, e: what passes on the mainline and from the on-ramp, and whether the room leaves
+-- the mainline free. Another way of sharing is another such function.
 use Prim.Native.Nat.{ℕ, _-_, min}
-use mathlib.Core.Bool.{Bool}
 use lib.Dec.{ltb}
 use Rattle.whole.specs.Share.{share}
 use Rattle.layout.specs.declared.Row.{Row}
+use Rattle.period.specs.declared.Passed.{Passed}
 use Rattle.period.specs.Cell.{R}
-
--- what passes at a node: on the mainline, from the on-ramp, and whether the room there leaves the mainline free
-pub record Passed : Type 0 where
-  pub main : ℕ
-  pub ramp : ℕ
-  pub clear : Bool
 
 abbrev pub Sharing : Type 0
 Sharing = Row → ℕ → ℕ → ℕ → Passed

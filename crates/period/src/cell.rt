@@ -1,22 +1,37 @@
 // One cell in one period, by the kind of its off-ramp and without a loop: numbers of 32 bits in and out, 64 between.
 ghost use mathlib.Core.Path.{_≡_};
-ghost use Prim.Native.Nat.{_≤_, _<_};
-ghost use lib.Dec.{ltb};
-ghost use Rattle.whole.specs.Search.{pick};
-ghost use Rattle.period.specs.Cell.{D, M, leaving, offFlow};
+ghost use Prim.Native.Nat.{_-_, _*_, _/_, _≤_, _<_, min};
+ghost use Rattle.whole.specs.Share.{ONE, share};
+ghost use Rattle.period.specs.Cell.{D, M, leaving, offFlow, modeOf};
 use layout::Row;
 use whole::least;
 use whole::share;
 
 // D.
-fn sending(row: Row, n: u32) -> u64
+pub(crate) fn sending(row: Row, n: u32) -> u64
     ensures { λ r. ⌜ r ≡ D row n ⌝ }
 {
     share(row.v, n)
 }
 
+// What a split leaves on the road of what a cell would send in all.
+pub(crate) fn split_stays(b: u32, d: u64) -> u64
+    requires { ⌜ (b < 65_536) × (d ≤ 4_294_967_295) ⌝ }
+    ensures { λ r. ⌜ r ≡ share d (ONE - b) ⌝ }
+{
+    d * ((65_536 - b) as u64) / 65_536
+}
+
+// What leaves by a split of b, of a flow f.
+pub(crate) fn split_leaves(b: u32, f: u32) -> u64
+    requires { ⌜ b < 65_536 ⌝ }
+    ensures { λ r. ⌜ r ≡ f * b / (ONE - b) ⌝ }
+{
+    (f as u64) * (b as u64) / ((65_536 - b) as u64)
+}
+
 // M.
-fn sent_on(row: Row, n: u32, o: u32) -> u64
+pub(crate) fn would_send(row: Row, n: u32, o: u32) -> u64
     requires { ⌜ (row .v ≤ 65_536) × (row .b < 65_536) ⌝ }
     ensures { λ r. ⌜ r ≡ M row n o ⌝ }
 {
@@ -27,20 +42,12 @@ fn sent_on(row: Row, n: u32, o: u32) -> u64
     if row.b == 0 {
         return d - least(o as u64, d);
     }
-    d * ((65_536 - row.b) as u64) / 65_536
-}
-
-// M, which is at most n.
-pub(crate) fn would_send(row: Row, n: u32, o: u32) -> u32
-    requires { ⌜ (row .v ≤ 65_536) × (row .b < 65_536) ⌝ }
-    ensures { λ r. ⌜ r ≡ M row n o ⌝ }
-{
-    sent_on(row, n, o) as u32
+    split_stays(row.b, d)
 }
 
 // What would leave by the off-ramp, of a flow f.
 fn leaving(row: Row, n: u32, o: u32, f: u32) -> u64
-    requires { ⌜ (row .b < 65_536) × (f ≤ n) ⌝ }
+    requires { ⌜ row .b < 65_536 ⌝ }
     ensures { λ r. ⌜ r ≡ leaving row n o f ⌝ }
 {
     if row.off == 0 {
@@ -49,20 +56,28 @@ fn leaving(row: Row, n: u32, o: u32, f: u32) -> u64
     if row.b == 0 {
         return least(o as u64, sending(row, n));
     }
-    (f as u64) * (row.b as u64) / ((65_536 - row.b) as u64)
+    split_leaves(row.b, f)
 }
 
-// s: never more than f leaves in the cell.
+// Never more than f leaves in the cell.
+pub(crate) fn cut_to(s: u64, n: u32, f: u32) -> u32
+    requires { ⌜ f ≤ n ⌝ }
+    ensures { λ r. ⌜ r ≡ min s (n - f) ⌝ }
+{
+    least(s, (n - f) as u64) as u32
+}
+
+// s.
 pub(crate) fn off_flow(row: Row, n: u32, o: u32, f: u32) -> u32
     requires { ⌜ (row .b < 65_536) × (f ≤ n) ⌝ }
     ensures { λ r. ⌜ r ≡ offFlow row n o f ⌝ }
 {
-    least(leaving(row, n, o, f), (n - f) as u64) as u32
+    cut_to(leaving(row, n, o, f), n, f)
 }
 
-// 0 where the cell would send less than its limit, else 1.
-pub(crate) fn mode(m: u64, limit: u64) -> u32
-    ensures { λ r. ⌜ r ≡ pick (ltb m limit) 0 1 ⌝ }
+// 0 where the cell is free, else 1.
+pub(crate) fn mode(m: u64, capacity: u32, clear: bool) -> u32
+    ensures { λ r. ⌜ r ≡ modeOf m capacity clear ⌝ }
 {
-    if m < limit { 0 } else { 1 }
+    if (m < capacity as u64) & clear { 0 } else { 1 }
 }

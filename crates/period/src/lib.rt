@@ -17,23 +17,11 @@ use layout::sheet::sheet_length;
 use refusals::Answer;
 use refusals::Refusal;
 
-// What a receiving cell opens at its node: to the mainline, and to its on-ramp.
-pub struct Opening {
-    pub main: u64,
+// What passes at a node: on the mainline and from the on-ramp, and whether the room there leaves the mainline free.
+pub struct Passed {
+    pub main: u32,
     pub ramp: u32,
-}
-
-// The flow out of a cell onward, and the cell's mode.
-pub struct Onward {
-    pub f: u32,
-    pub mode: u32,
-}
-
-// What a cell sends: f, s, and its mode.
-pub struct Sent {
-    pub f: u32,
-    pub s: u32,
-    pub mode: u32,
+    pub clear: bool,
 }
 
 // One period: numbers 1 to 7. On a refusal every list stays as it came.

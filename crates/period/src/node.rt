@@ -1,12 +1,11 @@
-// What passes at one node. A way of sharing is one function here, from what the mainline offers and what the receiving cell opens.
+// What passes at one node, from what the mainline offers and what the on-ramp of the receiving cell offers. A way of sharing is one function
+// here.
 ghost use mathlib.Core.Path.{_≡_};
-ghost use Prim.Native.Nat.{_+_, _-_, _≤_, min};
+ghost use Prim.Native.Nat.{_-_, _≤_, min};
 ghost use Rattle.whole.specs.Share.{share};
 ghost use Rattle.period.specs.Cell.{R};
-ghost use Rattle.period.specs.Private.{openOf, passedBy, onwardOf};
-use crate::Onward;
-use crate::Opening;
-use crate::cell::mode;
+ghost use Rattle.period.specs.Sharing.{asymmetric};
+use crate::Passed;
 use layout::Row;
 use whole::least;
 use whole::share;
@@ -19,47 +18,26 @@ fn room(row: Row, n: u32) -> u64
     share(row.w, row.jam - n)
 }
 
-// What an on-ramp of the given limit gets: the least of its offer and its share of the room. Most cells have no on-ramp, and with a limit of 0
-// nothing need be worked out.
-fn ramp_flow(row: Row, n: u32, limit: u32, q: u32, d: u32) -> u32
+// The least of e and the on-ramp's share of the room. Most cells have no on-ramp, and where nothing is offered nothing need be worked out.
+fn ramp_share(row: Row, n: u32, e: u32) -> u32
     requires { ⌜ n ≤ row .jam ⌝ }
-    ensures { λ r. ⌜ r ≡ min (min (q + d) limit) (share (row .x) (row .jam - n)) ⌝ }
+    ensures { λ r. ⌜ r ≡ min e (share (row .x) (row .jam - n)) ⌝ }
 {
-    if limit == 0 {
+    if e == 0 {
         return 0;
     }
-    least(
-        least(q as u64 + d as u64, limit as u64),
-        share(row.x, row.jam - n),
-    ) as u32
+    least(e as u64, share(row.x, row.jam - n)) as u32
 }
 
-// What the receiving cell opens, whatever the mainline offers.
-pub(crate) fn opens(row: Row, n: u32, limit: u32, q: u32, d: u32) -> Opening
+// Mainline and on-ramp each have a share of the room of their own.
+pub(crate) fn asymmetric(row: Row, n: u32, a: u32, e: u32) -> Passed
     requires { ⌜ n ≤ row .jam ⌝ }
-    ensures { λ r. ⌜ r ≡ openOf row n (min (q + d) limit) ⌝ }
+    ensures { λ r. ⌜ r ≡ asymmetric row n a e ⌝ }
 {
-    Opening {
-        main: room(row, n),
-        ramp: ramp_flow(row, n, limit, q, d),
+    let room = room(row, n);
+    Passed {
+        main: least(a as u64, room) as u32,
+        ramp: ramp_share(row, n, e),
+        clear: (a as u64) < room,
     }
-}
-
-// Mainline and on-ramp each have a share of the room of their own. What a cell that would send m passes of the least of m and F, and its mode:
-// the least of F and the room settles both.
-pub(crate) fn asymmetric(m: u32, capacity: u32, opening: Opening) -> Onward
-    ensures { λ r. ⌜ r ≡ onwardOf m capacity opening ⌝ }
-{
-    let limit = least(capacity as u64, opening.main);
-    Onward {
-        f: least(m as u64, limit) as u32,
-        mode: mode(m as u64, limit),
-    }
-}
-
-// What passes of what the entry offers.
-pub(crate) fn from_entry(a: u32, opening: Opening) -> u32
-    ensures { λ r. ⌜ r ≡ passedBy a opening .main ⌝ }
-{
-    least(a as u64, opening.main) as u32
 }

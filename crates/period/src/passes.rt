@@ -1,24 +1,20 @@
 // The two passes of a period over the cells, each from the last cell up the road.
 ghost use mathlib.Core.Path.{_≡_};
-ghost use Prim.Native.Nat.{_+_, _-_, _≤_, _<_};
+ghost use Prim.Native.Nat.{suc, _≤_, _<_};
 ghost use lib.ListN.{length};
-ghost use Rattle.layout.specs.Laid.{withEntry};
-ghost use Rattle.layout.specs.Layout.{cells, entryQueue, entryDemand};
-ghost use Rattle.layout.specs.Sheet.{sheetLength, withFlows};
-ghost use Rattle.layout.specs.Corridor.{corridorOf, rowOf, countOf};
+ghost use Rattle.layout.specs.Layout.{cells};
+ghost use Rattle.layout.specs.Sheet.{sheetLength};
+ghost use Rattle.layout.specs.Corridor.{corridorOf};
 ghost use Rattle.period.specs.Sharing.{asymmetric};
 ghost use Rattle.period.specs.Updated.{cellAfter, updated};
-ghost use Rattle.period.specs.Period.{RowAccepted, capacityNow, limitNow, rampOfferAt, flowAt, flowsAt, sheetOf};
-ghost use Rattle.period.specs.Private.{openOf, sendsOf, pastTheLast, ownAt, Sendable, Workable, CellUpdatable, Updatable};
-use crate::Opening;
-use crate::Sent;
-use crate::cell::off_flow;
-use crate::cell::would_send;
+ghost use Rattle.period.specs.Period.{RowAccepted, capacityNow, limitNow, sentAt, offerAt, rampOfferAt, nodeAt, flowAt, sheetOf};
+ghost use Rattle.period.specs.Private.{nodePassed, cellSent, cellPassed, lastPassed, Sendable, Workable, CellUpdatable, Updatable};
+use crate::Passed;
+use crate::cell::*;
 use crate::node::asymmetric;
-use crate::node::from_entry;
-use crate::node::opens;
 use layout::sheet::*;
 use layout::*;
+use whole::least;
 
 // F of the cell of index i, as it holds now.
 fn capacity_now(table: &[u32], state: &[u32], i: usize) -> u32
@@ -36,104 +32,106 @@ fn limit_now(table: &[u32], state: &[u32], i: usize) -> u32
     row_at(table, i).c
 }
 
-// What the cell of index i opens at the node upstream of it.
-fn open_at(n: usize, table: &[u32], state: &[u32], demand: &[u32], i: usize) -> Opening
+// What the on-ramp of the cell of index i offers. Most cells have none, and its limit is 0.
+fn ramp_offer(n: usize, table: &[u32], state: &[u32], demand: &[u32], i: usize) -> u32
     requires { ⌜ Workable n (corridorOf (now table) (now state)) (now demand) i ⌝ }
-    ensures { λ r. ⌜ r ≡ openOf (rowOf (corridorOf (now (table .entry)) (now (state .entry))) i) (countOf (corridorOf (now (table .entry)) (now (state .entry))) i) (rampOfferAt (corridorOf (now (table .entry)) (now (state .entry))) (now (demand .entry)) i) ⌝ }
+    ensures { λ r. ⌜ r ≡ rampOfferAt (corridorOf (now (table .entry)) (now (state .entry))) (now (demand .entry)) i ⌝ }
 {
-    opens(
-        row_at(table, i),
-        count_at(state, i),
-        limit_now(table, state, i),
-        queue_at(n, state, i),
-        on_demand_at(demand, i),
-    )
-}
-
-// What the cell of index i sends, whose off-ramp demand is o, where the cell downstream of it opens so much.
-fn sends(table: &[u32], state: &[u32], i: usize, o: u32, opening: Opening) -> Sent
-    requires { ⌜ Sendable (corridorOf (now table) (now state)) i ⌝ }
-    ensures { λ r. ⌜ r ≡ sendsOf (corridorOf (now (table .entry)) (now (state .entry))) i o opening ⌝ }
-{
-    let row = row_at(table, i);
-    let n = count_at(state, i);
-    let m = would_send(row, n, o);
-    let onward = asymmetric(m, capacity_now(table, state, i), opening);
-    Sent {
-        f: onward.f,
-        s: off_flow(row, n, o, onward.f),
-        mode: onward.mode,
+    let limit = limit_now(table, state, i);
+    if limit == 0 {
+        return 0;
     }
+    let waits = queue_at(n, state, i) as u64 + on_demand_at(demand, i) as u64;
+    least(waits, limit as u64) as u32
 }
 
-// Past the last cell there is room for any flow.
-fn past_the_last() -> Opening
-    ensures { λ r. ⌜ r ≡ pastTheLast ⌝ }
-{
-    Opening {
-        main: 4_294_967_296,
-        ramp: 0,
-    }
-}
-
-// The node between the cells of index i - 1 and i, of which the latter sends its own: what that cell does is stored, and the answer is what
-// the cell upstream sends. The stores come first, since what is in them need then not be kept while the cell upstream is worked out.
+// The node upstream of the cell of index p, where the position p offers a: what passes is stored.
 fn pass_node(
     n: usize,
     table: &[u32],
     state: &[u32],
     demand: &[u32],
     sheet: &mut [u32],
+    p: usize,
+    a: u32,
+) -> Passed
+    requires { ⌜ Workable n (corridorOf (now table) (now state)) (now demand) p ⌝ }
+    requires { ⌜ (a ≡ offerAt (corridorOf (now table) (now state)) (now demand) p) × (length (now sheet) ≡ sheetLength n) ⌝ }
+    ensures passes { λ r. ⌜ r ≡ nodeAt asymmetric (corridorOf (now (table .entry)) (now (state .entry))) (now (demand .entry)) p ⌝ }
+    ensures stores { λ _. ⌜ now (sheet .exit) ≡ nodePassed asymmetric (corridorOf (now (table .entry)) (now (state .entry))) (now (demand .entry)) n (now (sheet .entry)) p ⌝ }
+{
+    let e = ramp_offer(n, table, state, demand, p);
+    let passed = asymmetric(row_at(table, p), count_at(state, p), a, e);
+    put_flow(sheet, p, passed.main);
+    put_on_flow(sheet, n, p, passed.ramp);
+    passed
+}
+
+// The cell of index i sends what it can of m, which it would send: the answer is f.
+fn send(
+    n: usize,
+    table: &[u32],
+    state: &[u32],
+    demand: &[u32],
+    sheet: &mut [u32],
     i: usize,
-    own: Sent,
-) -> Sent
-    requires { ⌜ (0 < i) × (length (now sheet) ≡ sheetLength n) ⌝ }
-    requires { ⌜ Workable n (corridorOf (now table) (now state)) (now demand) (i - 1) ⌝ }
-    requires { ⌜ Workable n (corridorOf (now table) (now state)) (now demand) i ⌝ }
-    requires { ⌜ own ≡ ownAt asymmetric (corridorOf (now table) (now state)) (now demand) i ⌝ }
-    ensures sends { λ r. ⌜ r ≡ ownAt asymmetric (corridorOf (now (table .entry)) (now (state .entry))) (now (demand .entry)) (i - 1) ⌝ }
-    ensures stores { λ _. ⌜ now (sheet .exit) ≡ withFlows n (now (sheet .entry)) i (flowsAt asymmetric (corridorOf (now (table .entry)) (now (state .entry))) (now (demand .entry)) i) ⌝ }
+    m: u64,
+) -> u32
+    requires { ⌜ Workable n (corridorOf (now table) (now state)) (now demand) i × Workable n (corridorOf (now table) (now state)) (now demand) (suc i) ⌝ }
+    requires { ⌜ (m ≡ sentAt (corridorOf (now table) (now state)) (now demand) i) × (length (now sheet) ≡ sheetLength n) ⌝ }
+    ensures sends { λ r. ⌜ r ≡ flowAt asymmetric (corridorOf (now (table .entry)) (now (state .entry))) (now (demand .entry)) (suc i) ⌝ }
+    ensures stores { λ _. ⌜ now (sheet .exit) ≡ cellSent asymmetric (corridorOf (now (table .entry)) (now (state .entry))) (now (demand .entry)) n (now (sheet .entry)) i ⌝ }
 {
-    let o = off_demand_at(n, demand, i - 1);
-    let opening = open_at(n, table, state, demand, i);
-    put_flows(
-        sheet,
-        n,
-        i,
-        Flows {
-            f: own.f,
-            s: own.s,
-            r: opening.ramp,
-            mode: own.mode,
-        },
-    );
-    sends(table, state, i - 1, o, opening)
+    let capacity = capacity_now(table, state, i);
+    let a = least(m, capacity as u64) as u32;
+    let passed = pass_node(n, table, state, demand, sheet, i + 1, a);
+    put_mode(sheet, n, i, mode(m, capacity, passed.clear));
+    passed.main
 }
 
-// The node between the entry and the first cell, which sends its own: what that cell does is stored, and the entry flow.
-fn pass_entry(n: usize, table: &[u32], state: &[u32], demand: &[u32], sheet: &mut [u32], own: Sent)
-    requires { ⌜ Workable n (corridorOf (now table) (now state)) (now demand) 0 ⌝ }
-    requires { ⌜ (entryQueue (now state) + entryDemand (now demand) ≤ 1_000_000_000) × (length (now sheet) ≡ sheetLength n) ⌝ }
-    requires { ⌜ own ≡ ownAt asymmetric (corridorOf (now table) (now state)) (now demand) 0 ⌝ }
-    ensures { λ _. ⌜ now (sheet .exit) ≡ withEntry (withFlows n (now (sheet .entry)) 0 (flowsAt asymmetric (corridorOf (now (table .entry)) (now (state .entry))) (now (demand .entry)) 0)) (flowAt asymmetric (corridorOf (now (table .entry)) (now (state .entry))) (now (demand .entry)) 0) ⌝ }
+// The cell of index i and the node downstream of it. The kind of the off-ramp is tested once, before the node: with tests before and after it
+// a run takes longer.
+fn pass_cell(n: usize, table: &[u32], state: &[u32], demand: &[u32], sheet: &mut [u32], i: usize)
+    requires { ⌜ Workable n (corridorOf (now table) (now state)) (now demand) i × Workable n (corridorOf (now table) (now state)) (now demand) (suc i) ⌝ }
+    requires { ⌜ length (now sheet) ≡ sheetLength n ⌝ }
+    ensures { λ _. ⌜ now (sheet .exit) ≡ cellPassed asymmetric (corridorOf (now (table .entry)) (now (state .entry))) (now (demand .entry)) n (now (sheet .entry)) i ⌝ }
 {
-    let a = entry_queue(state) + entry_demand(demand);
-    let opening = open_at(n, table, state, demand, 0);
-    put_flows(
-        sheet,
-        n,
-        0,
-        Flows {
-            f: own.f,
-            s: own.s,
-            r: opening.ramp,
-            mode: own.mode,
-        },
-    );
-    put_entry(sheet, from_entry(a, opening));
+    let row = row_at(table, i);
+    let count = count_at(state, i);
+    let d = sending(row, count);
+    if row.off == 0 {
+        send(n, table, state, demand, sheet, i, d);
+        put_off_flow(sheet, n, i, 0);
+        return;
+    }
+    if row.b == 0 {
+        let s = least(off_demand_at(n, demand, i) as u64, d);
+        let f = send(n, table, state, demand, sheet, i, d - s);
+        put_off_flow(sheet, n, i, cut_to(s, count, f));
+        return;
+    }
+    let f = send(n, table, state, demand, sheet, i, split_stays(row.b, d));
+    put_off_flow(sheet, n, i, cut_to(split_leaves(row.b, f), count, f));
 }
 
-// Every flow, from the old state, into the sheet, node by node.
+// The last cell, of index i: past it there is room for any flow.
+fn pass_last(n: usize, table: &[u32], state: &[u32], demand: &[u32], sheet: &mut [u32], i: usize)
+    requires { ⌜ (suc i ≡ n) × Workable n (corridorOf (now table) (now state)) (now demand) i ⌝ }
+    requires { ⌜ length (now sheet) ≡ sheetLength n ⌝ }
+    ensures { λ _. ⌜ now (sheet .exit) ≡ lastPassed asymmetric (corridorOf (now (table .entry)) (now (state .entry))) (now (demand .entry)) n (now (sheet .entry)) i ⌝ }
+{
+    let row = row_at(table, i);
+    let count = count_at(state, i);
+    let o = off_demand_at(n, demand, i);
+    let m = would_send(row, count, o);
+    let capacity = capacity_now(table, state, i);
+    let f = least(m, capacity as u64) as u32;
+    put_flow(sheet, i + 1, f);
+    put_mode(sheet, n, i, mode(m, capacity, true));
+    put_off_flow(sheet, n, i, off_flow(row, count, o, f));
+}
+
+// Every flow, from the old state, into the sheet: the last cell, then node by node up the road to the entry.
 pub(crate) fn flows(table: &[u32], state: &[u32], demand: &[u32], sheet: &mut [u32])
     requires { ⌜ RowAccepted (corridorOf (now table) (now state)) (now demand) ⌝ }
     requires { ⌜ length (now sheet) ≡ sheetLength (cells (now table)) ⌝ }
@@ -141,13 +139,13 @@ pub(crate) fn flows(table: &[u32], state: &[u32], demand: &[u32], sheet: &mut [u
 {
     let n = cells(table);
     let mut i = n - 1;
-    let o = off_demand_at(n, demand, i);
-    let mut own = sends(table, state, i, o, past_the_last());
+    pass_last(n, table, state, demand, sheet, i);
     while 0 < i {
-        own = pass_node(n, table, state, demand, sheet, i, own);
         i -= 1;
+        pass_cell(n, table, state, demand, sheet, i);
     }
-    pass_entry(n, table, state, demand, sheet, own);
+    let a = entry_queue(state) + entry_demand(demand);
+    pass_node(n, table, state, demand, sheet, 0, a);
 }
 
 // A cell after the period.

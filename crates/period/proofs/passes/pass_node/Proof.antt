@@ -1,48 +1,36 @@
 -- `period::passes::pass_node` meets its contract. Assumes nothing.
-use Prim.Native.Nat.{suc, _-_}
-use mathlib.Core.Path.{_≡_, _∙_, ap}
 use native.Mathlib.Omega.{arith}
-use Rattle.layout.specs.Sheet.{withFlows}
 use Rattle.layout.specs.Corridor.{corridorOf}
-use Rattle.period.proofs.Facts.{sendable}
-use Rattle.period.proofs.Nodes.{does, upstream-is}
+use Rattle.period.specs.Sharing.{asymmetric}
+use Rattle.period.proofs.Nodes.{node-is, node-stored}
 use borrow.Author.Needs.{needs}
 use Rattle.period.proofs.passes.pass_node.Statement.{statement}
 use Rattle.period.proofs.passes.pass_node.Tie as tie
 
-abbrev begin : tie.After-open-at → tie.Start
-begin c = c .before .before .before .before .before .before
-
-below : (c : tie.Start) → c .args .i ≡ suc (c .args .i - 1)
-below c = let some = c .pre .0 .0 in omega arith
-
-put-flows-requires : tie.Need-put-flows-requires
-put-flows-requires c κs =
-    let start = begin (c .before) in
-    (start .pre .1 .1 .0 .inside, start .pre .0 .1)
-
-sends-requires : tie.Need-sends-requires
-sends-requires c κs = sendable (begin (c .before .before .before .before) .pre .1 .0)
+asymmetric-requires : tie.Need-asymmetric-requires
+asymmetric-requires c κs =
+    let start = c .before .before .before .before .before .before .before in
+    rw (c .count-at .ensures, c .before .row-at .ensures) (start .pre .0 .count)
 
 returns : tie.Need-returns
 returns c =
-    let stored = c .before .before .before in
-    let receiving = stored .before .before in
-    let start = begin receiving in
-    let lists = start .args in
-    let opened = receiving .open-at .ensures in
-    let does-it = does (corridorOf (lists .table .now) (lists .state .now)) (lists .demand .now) (lists .i) (start .pre .1 .1 .1) opened in
-    (upstream-is _ _ (start .pre .1 .1 .0) (below start) (receiving .before .off-demand-at .ensures) opened (c .sends .ensures), stored .put-flows .ensures ∙ ap (withFlows (lists .n) (lists .sheet .now) (lists .i)) does-it)
+    let stored = c .before .before in
+    let written = stored .before .before .before .before in
+    let node = written .before .before in
+    let read = node .before .before in
+    let start = read .before .before .before .before .before .before in
+    let is = node-is asymmetric (corridorOf (start .args .table .now) (start .args .state .now)) (start .args .demand .now) (start .args .p) (read .row-at .ensures) (node .before .count-at .ensures) (start .pre .1 .0) (read .before .ramp-offer .ensures) (node .asymmetric .ensures) in
+    (is, node-stored asymmetric (corridorOf (start .args .table .now) (start .args .state .now)) (start .args .demand .now) (start .args .n) (start .args .sheet .now) (omega (arith, start .pre .0 .all, start .pre .0 .inside)) is (written .put-flow .ensures) (stored .put-on-flow .ensures))
 
 pub pass-node-spec : {M : Type 1} → statement M
 pass-node-spec =
     tie.close
     (tie.spec
-    (λ c. search needs)
     (λ c κs. search needs)
     (λ c κs. search needs)
-    put-flows-requires
-    (λ c. search needs)
-    sends-requires
+    (λ c κs. search needs)
+    asymmetric-requires
+    (λ c κs. search needs)
+    (λ c κs. search needs)
     (λ c. search needs)
     returns)

@@ -1,0 +1,42 @@
+-- What a cell would send, and what leaves by its off-ramp, by the off-ramp's kind. Assumes nothing.
+use Prim.Native.Nat.{ℕ, _-_, _*_, _/_, _≤_, min}
+use mathlib.Core.Path.{_≡_, ap, _∙_}
+use native.Mathlib.Omega.{arith}
+use borrow.Author.Tests.{eq-eqb, ne-eqb}
+use Rattle.whole.specs.Share.{ONE, share}
+use Rattle.layout.specs.declared.Row.{Row}
+use Rattle.period.specs.Cell.{D, M, leaving, offFlow}
+use Rattle.period.proofs.Fair.{clipped}
+
+module _ (r : Row) (n o : ℕ) where
+  pub none-sends : r .off ≡ 0 → D r n ≡ M r n o
+  unfolding M
+  none-sends none = rw (eq-eqb _ _ none)
+
+  pub given-sends : (r .off ≡ 0 → ⊥) → r .b ≡ 0 → D r n - min o (D r n) ≡ M r n o
+  unfolding M
+  given-sends some given = rw (ne-eqb _ _ some, eq-eqb _ _ given)
+
+  pub split-sends : (r .off ≡ 0 → ⊥) → (r .b ≡ 0 → ⊥) → share (D r n) (ONE - r .b) ≡ M r n o
+  unfolding M
+  split-sends some split = rw (ne-eqb _ _ some, ne-eqb _ _ split)
+
+  module _ (f : ℕ) where
+    pub none-leaves : r .off ≡ 0 → 0 ≡ leaving r n o f
+    unfolding leaving
+    none-leaves none = rw (eq-eqb _ _ none)
+
+    pub given-leaves : (r .off ≡ 0 → ⊥) → r .b ≡ 0 → min o (D r n) ≡ leaving r n o f
+    unfolding leaving
+    given-leaves some given = rw (ne-eqb _ _ some, eq-eqb _ _ given)
+
+    pub split-leaves : (r .off ≡ 0 → ⊥) → (r .b ≡ 0 → ⊥) → f * r .b / (ONE - r .b) ≡ leaving r n o f
+    unfolding leaving
+    split-leaves some split = rw (ne-eqb _ _ some, ne-eqb _ _ split)
+
+    -- s, cut to what f leaves in the cell
+    pub cut : {s : ℕ} → s ≡ leaving r n o f → f ≤ n → min s (n - f) ≡ offFlow r n o f
+    cut is h = ap (λ s. min s (n - f)) is ∙ clipped r n o f h
+
+    pub none-is-cut : r .off ≡ 0 → f ≤ n → 0 ≡ offFlow r n o f
+    none-is-cut none h = omega (arith, cut (none-leaves none) h)
