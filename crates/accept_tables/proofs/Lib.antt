@@ -2,3 +2,4 @@ pub mod Marks
 pub mod Ramps
 pub mod Accepted
 pub mod Settled
+pub mod Numbers

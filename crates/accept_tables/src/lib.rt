@@ -2,11 +2,10 @@
 // second's.
 ghost use mathlib.Core.Path.{_≡_};
 ghost use mathlib.Core.List.{[], _∷_};
-ghost use lib.Dec.{eqb};
-ghost use Rattle.whole.specs.Search.{pick};
 ghost use Rattle.refusals.specs.declared.Answer.the-variants.{Accepted};
 ghost use Rattle.refusals.specs.Checks.{answer};
-ghost use Rattle.accept_tables.specs.Tables.{tableLengthFits, rowsInRange, roomsShared, rampsOnce, tableNumbers, tableChecks, bothTables, bothTablesChecks};
+ghost use Rattle.accept_tables.specs.Tables.{tableLengthFits, rowsInRange, tableNumbers, tableChecks, bothTables, bothTablesChecks};
+ghost use Rattle.accept_tables.specs.Private.{checkOf};
 
 mod checks;
 
@@ -26,7 +25,7 @@ pub fn table_length_fits(table: &[u32]) -> bool
 // Number 2, 3 or 4 of a table. Number 4 is for rows in their ranges.
 fn one_number(table: &[u32], number: u32) -> Answer
     requires { ⌜ (number ≡ 4 → Accepted ≡ answer (rowsInRange (now table) ∷ [])) ⌝ }
-    ensures { λ r. ⌜ r ≡ answer (pick (eqb number 4) (rampsOnce (now (table .entry))) (pick (eqb number 2) (rowsInRange (now (table .entry))) (roomsShared (now (table .entry)))) ∷ []) ⌝ }
+    ensures { λ r. ⌜ r ≡ answer (checkOf (now (table .entry)) number ∷ []) ⌝ }
 {
     let n = cells(table);
     if number == 4 {
@@ -50,15 +49,15 @@ fn one_number(table: &[u32], number: u32) -> Answer
 fn table_numbers(table: &[u32]) -> Answer
     ensures { λ r. ⌜ r ≡ answer (tableNumbers (now (table .entry))) ⌝ }
 {
-    let rows = one_number(table, 2);
-    if let Answer::Refused(refusal) = rows {
-        return Answer::Refused(refusal);
+    let mut number = 2;
+    while number < 5 {
+        let found = one_number(table, number);
+        if let Answer::Refused(refusal) = found {
+            return Answer::Refused(refusal);
+        }
+        number += 1;
     }
-    let rooms = one_number(table, 3);
-    if let Answer::Refused(refusal) = rooms {
-        return Answer::Refused(refusal);
-    }
-    one_number(table, 4)
+    Answer::Accepted
 }
 
 // Whether a table is accepted: numbers 1 to 4.
@@ -75,27 +74,19 @@ pub fn accept_table(table: &[u32]) -> Answer
 fn both_tables(first: &[u32], second: &[u32]) -> Answer
     ensures { λ r. ⌜ r ≡ answer (bothTables (now (first .entry)) (now (second .entry))) ⌝ }
 {
-    let rows = one_number(first, 2);
-    if let Answer::Refused(refusal) = rows {
-        return Answer::Refused(refusal);
+    let mut asked = 2;
+    while asked < 5 {
+        let found = one_number(first, asked);
+        if let Answer::Refused(refusal) = found {
+            return Answer::Refused(refusal);
+        }
+        let found_too = one_number(second, asked);
+        if let Answer::Refused(refusal) = found_too {
+            return Answer::Refused(refusal);
+        }
+        asked += 1;
     }
-    let rows_too = one_number(second, 2);
-    if let Answer::Refused(refusal) = rows_too {
-        return Answer::Refused(refusal);
-    }
-    let rooms = one_number(first, 3);
-    if let Answer::Refused(refusal) = rooms {
-        return Answer::Refused(refusal);
-    }
-    let rooms_too = one_number(second, 3);
-    if let Answer::Refused(refusal) = rooms_too {
-        return Answer::Refused(refusal);
-    }
-    let ramps = one_number(first, 4);
-    if let Answer::Refused(refusal) = ramps {
-        return Answer::Refused(refusal);
-    }
-    one_number(second, 4)
+    Answer::Accepted
 }
 
 // Whether two tables are accepted: numbers 1 to 4, each number of the first before the second's.

@@ -1,56 +1,47 @@
 -- `accept_tables::table_numbers` meets its contract. Assumes nothing.
+use Prim.Native.Nat.{_-_}
 use mathlib.Core.List.{[], _∷_}
-use mathlib.Core.Path.{_≡_, sym, _∙_}
-use native.Mathlib.Omega.{arith}
-use Rattle.refusals.specs.declared.Answer.the-variants.{Accepted}
-use Rattle.refusals.specs.Checks.{answer}
-use Rattle.accept_tables.specs.Tables.{rowsInRange, roomsShared}
-use Rattle.refusals.proofs.Answers.{one-stops, one-passes}
+use mathlib.Core.Path.{sym, _∙_}
+use Rattle.accept_tables.specs.Private.{checkOf}
+use Rattle.accept_tables.proofs.Numbers.{Asking, begins, two-passed, refused, goes-on, ends}
 use borrow.Author.Needs.{needs}
 use Rattle.accept_tables.proofs.table_numbers.Statement.{statement}
 use Rattle.accept_tables.proofs.table_numbers.Tie as tie
 
--- each number that is not given, from what told so
-passed-1 : (c : tie.After-enum-told) → Accepted ≡ answer (rowsInRange (c .before .before .before .before .args .table .now) ∷ [])
-passed-1 c = sym (c .enum-told .given .1) ∙ c .before .before .one-number .ensures
+abbrev Inv-loop : tie.InvT-loop
+Inv-loop table number₀ number = Asking (λ k. checkOf table k ∷ []) number
 
-passed-2 : (c : tie.After-enum-told2) → Accepted ≡ answer (roomsShared (c .before .before .before .before .before .before .before .args .table .now) ∷ [])
-passed-2 c = sym (c .enum-told2 .given .1) ∙ c .before .before .one-number2 .ensures
+abbrev μ-loop : tie.MeasureT-loop
+μ-loop table number₀ number = 5 - number
 
-one-number-requires : tie.Need-one-number-requires
-one-number-requires c κs = λ e. absurd (omega arith)
+one-number-requires : tie.Need-one-number-requires Inv-loop μ-loop
+one-number-requires c κs = two-passed (c .before .loop .inv)
 
-returns : tie.Need-returns
-returns c = one-stops _ _ (sym (c .before .rows .given .1) ∙ c .before .before .before .one-number .ensures)
+returns : tie.Need-returns Inv-loop μ-loop
+returns c =
+    let asked = c .before .before .before in
+    refused (asked .before .before .loop .inv) (asked .before .loop-test .taken) (sym (c .before .found .given .1) ∙ asked .one-number .ensures)
 
-one-number-requires-2 : tie.Need-one-number-requires-2
-one-number-requires-2 c κs = λ e. absurd (omega arith)
+loop-again : tie.Need-loop-again Inv-loop μ-loop
+loop-again c =
+    let asked = c .before .before in
+    goes-on (asked .before .before .loop .inv) (asked .before .loop-test .taken) (sym (c .enum-told .given .1) ∙ asked .one-number .ensures)
 
-returns-2 : tie.Need-returns-2
-returns-2 c =
-    one-passes _ (passed-1 (c .before .before .before .before))
-    (one-stops _ _ (sym (c .before .rooms .given .1) ∙ c .before .before .before .one-number2 .ensures))
-
-one-number-requires-3 : tie.Need-one-number-requires-3
-one-number-requires-3 c κs = λ _. passed-1 (c .before .before .before)
-
-returns-3 : tie.Need-returns-3
-returns-3 c =
-    one-passes _ (passed-1 (c .before .before .before .before))
-    (one-passes _ (passed-2 (c .before))
-    (c .one-number3 .ensures))
+returns-2 : tie.Need-returns-2 Inv-loop μ-loop
+returns-2 c = ends (c .before .loop .inv) (c .loop-test .left)
 
 pub table-numbers-spec : {M : Type 1} → statement M
 table-numbers-spec =
     tie.close
     (tie.spec
+    Inv-loop
+    μ-loop
+    (λ c. begins _)
     one-number-requires
     (λ c. search needs)
     returns
     (λ c. search needs)
-    one-number-requires-2
     (λ c. search needs)
-    returns-2
     (λ c. search needs)
-    one-number-requires-3
-    returns-3)
+    loop-again
+    returns-2)
