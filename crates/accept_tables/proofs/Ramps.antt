@@ -12,7 +12,7 @@ use lib.ListN.{length, replicate, length-replicate, length-set}
 use Rattle.whole.specs.Search.{pick, every}
 use Rattle.whole.proofs.Search.{Passes}
 use Rattle.layout.specs.declared.Row.{Row}
-use Rattle.layout.specs.Layout.{cells, rowAt, rampAt}
+use Rattle.layout.specs.Layout.{cells, rowAt, rampPositions, rampAt}
 use Rattle.accept_ranges.specs.Ranges.{rowInRange}
 use Rattle.accept_tables.specs.Tables.{rampIsNew}
 use Rattle.accept_ranges.proofs.Ranges.{InRange, in-range}
@@ -76,7 +76,7 @@ module _ (table : List ℕ) (i : ℕ) {row : Row} (e : row ≡ rowAt table i) wh
   off-ramp-at = rw (e, ne-eqb ((2 * i + 1) % 2) 0 (omega arith)) (ap (λ j. rowAt table j .off) (omega arith))
 
 -- in a table whose rows are in range, each ramp number has its mark
-pub ramps-have-marks : (table : List ℕ) → Passes (cells table) (λ i. rowInRange (rowAt table i)) → (k : ℕ) → k < 2 * cells table → rampAt table k < 65_536
+pub ramps-have-marks : (table : List ℕ) → Passes (cells table) (λ i. rowInRange (rowAt table i)) → (k : ℕ) → k < rampPositions (cells table) → rampAt table k < 65_536
 ramps-have-marks table rows k h = by (eqb (k % 2) 0)
   where
     ranges : InRange (rowAt table (k / 2))

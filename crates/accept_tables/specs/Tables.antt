@@ -1,12 +1,12 @@
 -- Document 01, "Units and the cell row" and "Refusal numbers" 1 to 4: what is asked of a table, and of two.
-use Prim.Native.Nat.{ℕ, _+_, _*_, _/_}
+use Prim.Native.Nat.{ℕ, _+_}
 use mathlib.Core.Bool.{Bool, not, _&&_, _||_}
 use mathlib.Core.List.{List, [], _∷_}
 use lib.Dec.{eqb}
 use lib.ListN.{length}
 use Rattle.whole.specs.Search.{within, every}
 use Rattle.refusals.specs.declared.Refusal.the-variants.{TableNumber, RoomShares, RampAgain}
-use Rattle.layout.specs.Layout.{MOST, cells, tableLength, rowAt, rampAt}
+use Rattle.layout.specs.Layout.{MOST, cells, tableLength, rowAt, rampPositions, rampCell, rampAt}
 use Rattle.refusals.specs.Checks.{Check, lengths}
 use Rattle.accept_ranges.specs.Ranges.{rowInRange, roomShared}
 
@@ -27,7 +27,7 @@ abbrev pub roomsShared : List ℕ → Check
 roomsShared table = record { places = cells table; test = λ i. roomShared (rowAt table i); refusal = λ i. RoomShares (i + 1) }
 
 abbrev pub rampsOnce : List ℕ → Check
-rampsOnce table = record { places = 2 * cells table; test = rampIsNew table; refusal = λ k. RampAgain (k / 2 + 1) }
+rampsOnce table = record { places = rampPositions (cells table); test = rampIsNew table; refusal = λ k. RampAgain (rampCell k + 1) }
 
 -- What is asked of a table (1 to 4)
 

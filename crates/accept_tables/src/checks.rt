@@ -1,13 +1,13 @@
 // The checks of document 01's numbers 2 to 4. Each answers the least place that fails its test, counted from 0, or how many places there are
 // where none fails.
 ghost use mathlib.Core.Path.{_≡_};
-ghost use Prim.Native.Nat.{ℕ, _*_, _/_, _%_, _^_, _<_};
+ghost use Prim.Native.Nat.{ℕ, _/_, _%_, _^_, _<_};
 ghost use mathlib.Core.Bool.{not, _&&_};
 ghost use lib.Dec.{eqb};
 ghost use lib.Bits.{bitOr};
 ghost use lib.ListN.{getD, set};
 ghost use Rattle.whole.specs.Search.{pick, firstFailing};
-ghost use Rattle.layout.specs.Layout.{cells, rowAt, rampAt};
+ghost use Rattle.layout.specs.Layout.{cells, rowAt, rampPositions, rampAt};
 ghost use Rattle.refusals.specs.Checks.{least};
 ghost use Rattle.accept_ranges.specs.Ranges.{rowInRange, roomShared};
 ghost use Rattle.accept_tables.specs.Tables.{rampsOnce};
@@ -57,7 +57,7 @@ fn ramp_again(marks: &mut [u64; 1_024], ramp: usize) -> bool
 
 // Number 4: a mark that is up says that its ramp number stands at a position already passed.
 pub(crate) fn ramps_once(table: &[u32]) -> usize
-    requires { ⌜ ((k : ℕ) → k < 2 * cells (now table) → rampAt (now table) k < 65_536) ⌝ }
+    requires { ⌜ ((k : ℕ) → k < rampPositions (cells (now table)) → rampAt (now table) k < 65_536) ⌝ }
     ensures { λ r. ⌜ r ≡ least (rampsOnce (now (table .entry))) ⌝ }
 {
     let mut marks = [0; 1_024];
@@ -66,12 +66,12 @@ pub(crate) fn ramps_once(table: &[u32]) -> usize
     while i < n {
         let row = row_at(table, i);
         if ramp_again(&mut marks, row.on as usize) {
-            return 2 * i;
+            return ramp_positions(i);
         }
         if ramp_again(&mut marks, row.off as usize) {
-            return 2 * i + 1;
+            return ramp_positions(i) + 1;
         }
         i += 1;
     }
-    2 * n
+    ramp_positions(n)
 }

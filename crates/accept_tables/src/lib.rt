@@ -10,6 +10,8 @@ ghost use Rattle.accept_tables.specs.Private.{checkOf};
 mod checks;
 
 use layout::cells;
+use layout::ramp_cell;
+use layout::ramp_positions;
 use layout::table_length;
 use refusals::Answer;
 use refusals::Refusal;
@@ -30,8 +32,8 @@ fn one_number(table: &[u32], number: u32) -> Answer
     let n = cells(table);
     if number == 4 {
         let ramp = checks::ramps_once(table);
-        if ramp < 2 * n {
-            return Answer::Refused(Refusal::RampAgain(ramp / 2 + 1));
+        if ramp < ramp_positions(n) {
+            return Answer::Refused(Refusal::RampAgain(ramp_cell(ramp) + 1));
         }
         return Answer::Accepted;
     }

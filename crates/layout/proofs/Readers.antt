@@ -1,5 +1,5 @@
 -- What stands where in a state, a demand row and a sheet that are laid out from their parts. Assumes nothing.
-use Prim.Native.Nat.{ℕ, zero, suc, _+_, _≤_, _<_}
+use Prim.Native.Nat.{ℕ, zero, suc, _≤_, _<_}
 use mathlib.Core.Path.{_≡_, refl}
 use native.Mathlib.Numerals.{one-add}
 use native.Mathlib.Omega.{arith}

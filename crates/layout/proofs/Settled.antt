@@ -22,6 +22,10 @@ use Rattle.layout.proofs.demand_space.Kinds as demand-space-kinds
 use Rattle.layout.proofs.demand_space.Reads as demand-space
 use Rattle.layout.proofs.row_at.Kinds as row-at-kinds
 use Rattle.layout.proofs.row_at.Reads as row-at
+use Rattle.layout.proofs.ramp_positions.Kinds as ramp-positions-kinds
+use Rattle.layout.proofs.ramp_positions.Reads as ramp-positions
+use Rattle.layout.proofs.ramp_cell.Kinds as ramp-cell-kinds
+use Rattle.layout.proofs.ramp_cell.Reads as ramp-cell
 use Rattle.layout.proofs.ramp_at.Kinds as ramp-at-kinds
 use Rattle.layout.proofs.ramp_at.Reads as ramp-at
 use Rattle.layout.proofs.entry_queue.Kinds as entry-queue-kinds
@@ -91,6 +95,12 @@ demand-space-settles κs a y z e f p q = settled (p .empty) (q .empty)
 
 pub row-at-settles : Settles _ row-at-kinds.ps row-at-kinds.r row-at.Learnt
 row-at-settles κs a y z e f = settled
+
+pub ramp-positions-settles : Settles _ ramp-positions-kinds.ps ramp-positions-kinds.r ramp-positions.Learnt
+ramp-positions-settles κs a y z e f = settled
+
+pub ramp-cell-settles : Settles _ ramp-cell-kinds.ps ramp-cell-kinds.r ramp-cell.Learnt
+ramp-cell-settles κs a y z e f = settled
 
 pub ramp-at-settles : Settles _ ramp-at-kinds.ps ramp-at-kinds.r ramp-at.Learnt
 ramp-at-settles κs a y z e f = settled

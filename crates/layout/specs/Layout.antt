@@ -43,9 +43,16 @@ rowAt table i =
       b = getD table (9 * i + 8) 0;
     }
 
--- the ramp numbers along the road, two positions a cell: the on-ramp comes before the off-ramp
+-- the ramp positions of n cells along the road, two a cell: the on-ramp comes before the off-ramp; and the cell of a position
+abbrev pub rampPositions : ℕ → ℕ
+rampPositions n = 2 * n
+
+abbrev pub rampCell : ℕ → ℕ
+rampCell k = k / 2
+
+-- the ramp number at a position
 abbrev pub rampAt : List ℕ → ℕ → ℕ
-rampAt table k = pick (eqb (k % 2) 0) (rowAt table (k / 2) .on) (rowAt table (k / 2) .off)
+rampAt table k = pick (eqb (k % 2) 0) (rowAt table (rampCell k) .on) (rowAt table (rampCell k) .off)
 
 -- a state of n cells: the entry queue Q, then the counts, then the on-ramp queues
 abbrev pub stateLength : ℕ → ℕ

@@ -4,7 +4,7 @@ ghost use mathlib.Core.Path.{_≡_};
 ghost use Prim.Native.Nat.{_+_, _*_, _<_};
 ghost use lib.ListN.{length};
 ghost use Rattle.layout.specs.Laid.{Space, withEntry};
-ghost use Rattle.layout.specs.Layout.{WIDTH, Listed, MOST, cells, tableLength, rowAt, rampAt, stateLength, entryQueue, countAt, queueAt, cellAt, withCell, demandLength, entryDemand, onDemandAt, offDemandAt, withDemands};
+ghost use Rattle.layout.specs.Layout.{WIDTH, Listed, MOST, cells, tableLength, rowAt, rampPositions, rampCell, rampAt, stateLength, entryQueue, countAt, queueAt, cellAt, withCell, demandLength, entryDemand, onDemandAt, offDemandAt, withDemands};
 
 pub mod sheet;
 
@@ -108,9 +108,24 @@ pub fn row_at(table: &[u32], i: usize) -> Row
     }
 }
 
+// The ramp positions of n cells along the road: so the on-ramp of the cell of index n stands there, its off-ramp one position on.
+pub fn ramp_positions(n: usize) -> usize
+    requires { ⌜ Listed n ⌝ }
+    ensures { λ r. ⌜ r ≡ rampPositions n ⌝ }
+{
+    2 * n
+}
+
+// The index of the cell of a ramp position.
+pub fn ramp_cell(k: usize) -> usize
+    ensures { λ r. ⌜ r ≡ rampCell k ⌝ }
+{
+    k / 2
+}
+
 // The ramp number at position k along the road.
 pub fn ramp_at(table: &[u32], k: usize) -> u32
-    requires { ⌜ k < 2 * cells (now table) ⌝ }
+    requires { ⌜ k < rampPositions (cells (now table)) ⌝ }
     ensures { λ r. ⌜ r ≡ rampAt (now (table .entry)) k ⌝ }
 {
     let row = row_at(table, k / 2);

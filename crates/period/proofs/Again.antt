@@ -12,7 +12,7 @@ use Rattle.refusals.specs.declared.Answer.the-variants.{Accepted}
 use Rattle.refusals.specs.Checks.{answer}
 use Rattle.layout.specs.Layout.{onDemandAt}
 use Rattle.layout.specs.Corridor.{Corridor, cellsOf, rowOf, entryQueueOf, queueOf, cellOf}
-use Rattle.accept_ranges.specs.Ranges.{withRamp, queueLimit, demandLimit}
+use Rattle.accept_ranges.specs.Ranges.{queueLimit, demandLimit}
 use Rattle.accept_ranges.proofs.Ranges.{fits-cell}
 use Rattle.accept_tables.specs.Tables.{tableNumbers}
 use Rattle.accept_rows.specs.Acceptance.{stateInRange, stateNumbers, demandNumbers}

@@ -1,15 +1,13 @@
 -- From the sheet of an accepted period the state can be brought up to date, and what that leaves is the state after. Assumes nothing.
-use Prim.Native.Nat.{ℕ, suc, _+_, _≤_, _<_}
-use mathlib.Core.Path.{_≡_, refl, ap, _∙_}
+use Prim.Native.Nat.{ℕ, suc, _<_}
+use mathlib.Core.Path.{_≡_, _∙_}
 use mathlib.Core.List.{List}
 use native.Mathlib.Numerals.{add-one}
 use native.Mathlib.Omega.{arith}
-use Rattle.layout.specs.Layout.{entryQueue, countAt, queueAt, entryDemand, onDemandAt}
-use Rattle.layout.specs.Sheet.{flowIn, offFlowIn, onFlowIn}
-use Rattle.layout.specs.Corridor.{Corridor, cellsOf, rowOf}
+use Rattle.layout.specs.Corridor.{Corridor, cellsOf}
 use Rattle.period.specs.Sharing.{Sharing}
 use Rattle.period.specs.Updated.{updated}
-use Rattle.period.specs.Period.{RowAccepted, flowAt, offFlowAt, onFlowAt, sheetOf, stateAfter, RowDone}
+use Rattle.period.specs.Period.{RowAccepted, sheetOf, stateAfter, RowDone}
 use Rattle.period.specs.Private.{CellUpdatable, Updatable}
 use Rattle.period.specs.Fair.{Fair}
 use Rattle.period.proofs.Facts.{Facts, facts}

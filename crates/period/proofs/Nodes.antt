@@ -1,10 +1,10 @@
 -- What passes at each node, and what each position sends there. Assumes nothing.
-use Prim.Native.Nat.{ℕ, suc, _≤_, _<_}
-use mathlib.Core.Path.{_≡_, _∙_}
-use mathlib.Core.Bool.{Bool, true, false}
+use Prim.Native.Nat.{ℕ, suc, _≤_, _<_, min}
+use mathlib.Core.Path.{_≡_, refl, sym, _∙_}
+use mathlib.Core.Bool.{Bool, true, false, _&&_}
 use mathlib.Core.List.{List}
 use native.Mathlib.Omega.{arith}
-use borrow.Author.Tests.{lt-ltb, le-ltb}
+use borrow.Author.Tests.{lt-ltb, le-ltb, ltb-true, ltb-false}
 use lib.Dec.{ltb}
 use Rattle.whole.specs.Search.{pick}
 use Rattle.layout.specs.declared.Row.{Row}
@@ -81,20 +81,45 @@ module _ (way : Sharing) (fair : Fair way) (c : Corridor) (demand : List ℕ) wh
       omega
       (arith, flow-of-offer (suc i), sends-what-it-has (rowOf c i) (countOf c i) (offDemandAt (cellsOf c) demand i) h)
 
--- What is read of a cell serves for the cell.
-module _ {n i count : ℕ} {c : Corridor} {demand : List ℕ} {row : Row} (known : Workable n c demand i) (is-row : row ≡ rowOf c i) (is-count : count ≡ countOf c i) where
+-- where M is below F, whether it is below the least of F and R is whether it is below R
+least-of-both : (m capacity room : ℕ) → m < capacity → ltb m (min capacity room) ≡ ltb m room
+least-of-both m capacity room h = by (ltb m room) refl
+  where
+    by : (free : Bool) → ltb m room ≡ free → ltb m (min capacity room) ≡ ltb m room
+    by true f = let k = ltb-true m room f in lt-ltb m (min capacity room) (omega arith) ∙ sym f
+    by false f = let k = ltb-false m room f in le-ltb m (min capacity room) (omega arith) ∙ sym f
+
+-- M < F and a < R, with a the least of M and F, is M < min(F, R): document 01's step 7
+pub free-is : (m capacity room : ℕ) → ltb m (min capacity room) ≡ (ltb m capacity && ltb (min m capacity) room)
+free-is m capacity room = by (ltb m capacity) refl
+  where
+    by : (below : Bool) → ltb m capacity ≡ below → ltb m (min capacity room) ≡ (below && ltb (min m capacity) room)
+    by true e =
+        let h = ltb-true m capacity e in
+        let same : min m capacity ≡ m = omega arith in
+        rw same (least-of-both m capacity room h)
+    by false e = let h = ltb-false m capacity e in le-ltb m (min capacity room) (omega arith)
+
+-- what is read of a cell
+pub record CellRead (n : ℕ) (c : Corridor) (demand : List ℕ) (i : ℕ) (row : Row) (count : ℕ) : Type 0 where
+  pub known : Workable n c demand i
+  pub is-row : row ≡ rowOf c i
+  pub is-count : count ≡ countOf c i
+
+-- serves for the cell
+module _ {n i count : ℕ} {c : Corridor} {demand : List ℕ} {row : Row} (read : CellRead n c demand i row count) where
   pub v-fits : row .v ≤ 65_536
-  v-fits = rw is-row (known .v)
+  v-fits = rw (read .is-row) (read .known .v)
 
   pub b-fits : row .b < 65_536
-  b-fits = rw is-row (known .b)
+  b-fits = rw (read .is-row) (read .known .b)
 
   pub sent-is : {o m : ℕ} → o ≡ offDemandAt n demand i → m ≡ M row count o → m ≡ sentAt c demand i
-  sent-is o m = m ∙ rw (is-row, is-count, o, known .all)
+  sent-is o m = m ∙ rw (read .is-row, read .is-count, o, read .known .all)
 
   pub off-flow-is : (way : Sharing) {o f s : ℕ} → o ≡ offDemandAt n demand i → f ≡ flowAt way c demand (suc i) → s ≡ offFlow row count o f → s ≡ offFlowAt way c demand i
   unfolding offFlowAt
-  off-flow-is way o f s = s ∙ rw (is-row, is-count, o, f, known .all)
+  off-flow-is way o f s = s ∙ rw (read .is-row, read .is-count, o, f, read .known .all)
 
   pub is-in-the-cell : (way : Sharing) {f : ℕ} → Fair way → f ≡ flowAt way c demand (suc i) → f ≤ count
-  is-in-the-cell way fair f = rw (f, is-count) (flow-is-in-the-cell way fair c demand i (known .v))
+  is-in-the-cell way fair f = rw (f, read .is-count) (flow-is-in-the-cell way fair c demand i (read .known .v))

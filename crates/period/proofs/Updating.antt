@@ -1,13 +1,12 @@
 -- The state as it is brought up to date from the last cell up the road: the cells from one on are those after the period, the others and the
 -- entry are as they were. Assumes nothing.
-use Prim.Native.Nat.{ℕ, suc, _+_, _-_, _≤_, _<_}
+use Prim.Native.Nat.{ℕ, _+_, _-_, _≤_, _<_}
 use mathlib.Core.Path.{_≡_, refl, ap, _∙_}
-use mathlib.Core.List.{List, [], _∷_}
+use mathlib.Core.List.{List}
 use native.Mathlib.Omega.{arith}
-use lib.ListN.{length}
 use Rattle.layout.specs.declared.Cell.{Cell}
 use Rattle.layout.specs.Laid.{withEntry}
-use Rattle.layout.specs.Layout.{stateLength, entryQueue, countAt, queueAt, cellAt, stateColumns, stateOf, withCell, entryDemand}
+use Rattle.layout.specs.Layout.{entryQueue, countAt, queueAt, cellAt, stateColumns, stateOf, withCell, entryDemand}
 use Rattle.layout.specs.Sheet.{flowIn}
 use Rattle.layout.proofs.Laid.{Laying, laying-none, laying-whole}
 use Rattle.layout.proofs.States.{as-it-stands, cell-is, cell-stored, entry-stays}

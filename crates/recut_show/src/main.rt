@@ -2,6 +2,7 @@
 // old count, the queue stands on the first piece and the off-ramp on the last, and the periods go on.
 use layout::cells;
 use layout::ramp_at;
+use layout::ramp_positions;
 use refusals::Answer;
 
 // One cell with on-ramp 11 and off-ramp 12, in the columns v, w, F, J, on, x, c, off, b.
@@ -59,7 +60,7 @@ fn show_state(word: &[u8], n: usize, state: &[u32]) {
 // Prints the ramp numbers along the road, the on-ramp and the off-ramp of each cell; 0 is no ramp.
 fn show_ramps(table: &[u32]) {
     io::write_all(1, b"ramps along the road:");
-    let n = 2 * cells(table);
+    let n = ramp_positions(cells(table));
     let mut k: usize = 0;
     while k < n {
         io::write_all(1, b" ");

@@ -21,10 +21,14 @@ ramps-once-requires : tie.Need-ramps-once-requires
 ramps-once-requires c κs = let start = c .before .before in ramps-have-marks (start .before .args .table .now) (accepted-passes _ _ (sym (start .before .pre (c .if1 .taken))) .0)
 
 returns : tie.Need-returns
-returns c = rw (c .before .before .if1 .taken) (stops _ _ (c .before .ramps-once .ensures) (search needs))
+returns c =
+    let asked = c .before .before .before in
+    rw (asked .before .if1 .taken, c .ramp-cell .ensures) (stops _ _ (asked .ramps-once .ensures) (search needs))
 
 returns-2 : tie.Need-returns-2
-returns-2 c = rw (c .before .before .if1 .taken) (passes _ (c .before .ramps-once .ensures) (search needs) refl)
+returns-2 c =
+    let asked = c .before .before in
+    rw (asked .before .if1 .taken) (passes _ (asked .ramps-once .ensures) (search needs) refl)
 
 -- 2 or 3, as the test says
 passed : (table : List ℕ) (two : Bool) {row : ℕ} → row ≡ firstFailing (cells table) (λ i. pick two (rowInRange (rowAt table i)) (roomShared (rowAt table i))) → cells table ≤ row
@@ -51,7 +55,8 @@ one-number-spec =
     (tie.spec
     (λ c κs. search needs)
     ramps-once-requires
-    (λ c. search needs)
+    (λ c κs. search needs)
+    (λ c κs. search needs)
     (λ c. search needs)
     returns
     returns-2

@@ -1,14 +1,14 @@
 -- `recut_show::show_ramps` meets its contract. Assumes nothing.
-use Prim.Native.Nat.{_-_, _*_}
+use Prim.Native.Nat.{_-_}
 use mathlib.Core.Path.{_≡_}
 use native.Mathlib.Omega.{arith}
 use borrow.Author.Needs.{needs}
-use Rattle.layout.specs.Layout.{cells}
+use Rattle.layout.specs.Layout.{cells, rampPositions}
 use Rattle.recut_show.proofs.show_ramps.Statement.{statement}
 use Rattle.recut_show.proofs.show_ramps.Tie as tie
 
 abbrev Inv-loop : tie.InvT-loop
-Inv-loop table n k₀ t5 t6 k = n ≡ 2 * cells table
+Inv-loop table n k₀ t5 t6 k = n ≡ rampPositions (cells table)
 
 abbrev μ-loop : tie.MeasureT-loop
 μ-loop table n k₀ t5 t6 k = n - k

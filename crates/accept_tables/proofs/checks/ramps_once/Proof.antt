@@ -1,7 +1,7 @@
 -- `accept_tables::checks::ramps_once` meets its contract, by the laws of the search and of the marks: two positions a turn. Assumes nothing.
 use Prim.Native.Nat.{ℕ, _+_, _*_, _-_, _<_}
 use mathlib.Core.List.{List}
-use mathlib.Core.Path.{_≡_, _∙_, refl}
+use mathlib.Core.Path.{_≡_, _∙_, refl, ap}
 use native.Mathlib.Omega.{arith}
 use borrow.Author.Needs.{needs}
 use Rattle.whole.proofs.Search.{Searching, begins, goes-on, found, not-found}
@@ -46,8 +46,11 @@ ramp-again-requires c κs = on-below (c .before .before)
 
 returns : tie.Need-returns Inv-loop μ-loop
 returns c =
-    let inv = c .before .before .before .before .before .before .loop .inv in
-    found (inv .0) (search needs) refl (marks-tell (inv .1) (on-is (c .before .before .before .before)) (c .before .ramp-again .ensures .0) ∙ c .if1 .taken)
+    let again = c .before in
+    let row = again .before .before .before .before in
+    let inv = row .before .before .loop .inv in
+    c .ramp-positions .ensures
+    ∙ found (inv .0) (search needs) refl (marks-tell (inv .1) (on-is row) (again .before .ramp-again .ensures .0) ∙ again .if1 .taken)
 
 -- past the on-ramp
 passed : (c : tie.Else1 Inv-loop μ-loop) → let here = c .before .before .before .before in Searching (2 * cells (road here)) (rampIsNew (road here)) (2 * here .before .before .before .cells .result) (2 * turn here + 1) × Marked (road here) (2 * turn here + 1) (c .before .ramp-again .last .0)
@@ -61,8 +64,11 @@ ramp-again-requires-2 c κs = off-below (c .before .before .before .before .befo
 
 returns-2 : tie.Need-returns-2 Inv-loop μ-loop
 returns-2 c =
-    let at = passed (c .before .before .before .before) in
-    found (at .0) (omega arith) refl (marks-tell (at .1) (off-is (c .before .before .before .before .before .before .before .before)) (c .before .ramp-again2 .ensures .0) ∙ c .if2 .taken)
+    let again = c .before in
+    let on = again .before .before .before .before in
+    let at = passed on in
+    ap (λ k. k + 1) (c .ramp-positions2 .ensures)
+    ∙ found (at .0) (omega arith) refl (marks-tell (at .1) (off-is (on .before .before .before .before)) (again .before .ramp-again2 .ensures .0) ∙ again .if2 .taken)
 
 loop-again : tie.Need-loop-again Inv-loop μ-loop
 loop-again c =
@@ -73,7 +79,8 @@ loop-again c =
     (goes-on (at .0) (omega arith) refl (marks-tell (at .1) (off-is row) (c .before .ramp-again2 .ensures .0) ∙ c .if2 .left), mark-up (at .1) (off-is row) (off-below row) (c .before .ramp-again2 .ensures .1))
 
 returns-3 : tie.Need-returns-3 Inv-loop μ-loop
-returns-3 c = not-found (c .before .loop .inv .0) (omega arith)
+returns-3 c =
+    let end = c .before in c .ramp-positions3 .ensures ∙ not-found (end .before .loop .inv .0) (omega (arith, end .loop-test .left))
 
 pub ramps-once-spec : {M : Type 1} → statement M
 ramps-once-spec =
@@ -86,15 +93,15 @@ ramps-once-spec =
     (λ c κs. search needs)
     (λ c. search needs)
     ramp-again-requires
-    (λ c. search needs)
+    (λ c κs. search needs)
     returns
     (λ c. search needs)
     ramp-again-requires-2
-    (λ c. search needs)
+    (λ c κs. search needs)
     (λ c. search needs)
     returns-2
     (λ c. search needs)
     (λ c. search needs)
     loop-again
-    (λ c. search needs)
+    (λ c κs. search needs)
     returns-3)

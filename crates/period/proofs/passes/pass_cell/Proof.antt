@@ -4,12 +4,11 @@ use mathlib.Core.Path.{refl, ap, ap₂, _∙_}
 use native.Mathlib.Omega.{arith}
 use Rattle.whole.specs.Share.{ONE, share}
 use Rattle.whole.proofs.Shares.{share-within}
-use Rattle.layout.specs.Layout.{offDemandAt}
 use Rattle.layout.specs.Corridor.{corridorOf}
 use Rattle.period.specs.Sharing.{asymmetric}
 use Rattle.period.proofs.Fair.{asymmetric-is-fair}
 use Rattle.period.proofs.OffRamps.{none-sends, given-sends, split-sends, given-leaves, split-leaves, cut, none-is-cut}
-use Rattle.period.proofs.Nodes.{off-stored, v-fits, b-fits, sent-is, off-flow-is, is-in-the-cell}
+use Rattle.period.proofs.Nodes.{CellRead, off-stored, v-fits, b-fits, sent-is, off-flow-is, is-in-the-cell}
 use borrow.Author.Needs.{needs}
 use Rattle.period.proofs.passes.pass_cell.Statement.{statement}
 use Rattle.period.proofs.passes.pass_cell.Tie as tie
@@ -17,13 +16,14 @@ use Rattle.period.proofs.passes.pass_cell.Tie as tie
 abbrev begin : tie.After-sending → tie.Start
 begin c = c .before .before .before .before .before .before .before
 
+here : (c : tie.After-sending) → let lists = begin c .args in CellRead (lists .n) (corridorOf (lists .table .now) (lists .state .now)) (lists .demand .now) (lists .i) (c .before .before .row-at .result) (c .before .count-at .result)
+here c = record { known = begin c .pre .0 .0; is-row = c .before .before .row-at .ensures; is-count = c .before .count-at .ensures }
+
 send-requires : tie.Need-send-requires
 send-requires c κs =
     let sent = c .before .before .before in
     let start = begin sent in
-    let row = sent .before .before .row-at in
-    let count = sent .before .count-at in
-    let m = sent-is (start .pre .0 .0) (row .ensures) (count .ensures) refl (sent .sending .ensures ∙ none-sends (row .result) (count .result) _ (c .before .if1 .taken)) in
+    let m = sent-is (here sent) refl (sent .sending .ensures ∙ none-sends _ _ _ (c .before .if1 .taken)) in
     (start .pre .0, (m, start .pre .1))
 
 returns : tie.Need-returns
@@ -32,13 +32,10 @@ returns c =
     let passed = stored .before .before .before .before in
     let none = passed .before .before in
     let sent = none .before .before in
-    let start = begin sent in
-    let row = sent .before .before .row-at in
-    let count = sent .before .count-at in
     let f = passed .send .ensures .0 in
-    let fits = is-in-the-cell (start .pre .0 .0) (row .ensures) (count .ensures) asymmetric asymmetric-is-fair f in
-    let s = off-flow-is (start .pre .0 .0) (row .ensures) (count .ensures) asymmetric refl f (none-is-cut (row .result) (count .result) _ _ (none .if1 .taken) fits) in
-    off-stored asymmetric (corridorOf (start .args .table .now) (start .args .state .now)) (start .args .demand .now) (start .args .n) (start .args .sheet .now) (start .args .i) s (passed .send .ensures .1) (stored .put-off-flow .ensures)
+    let fits = is-in-the-cell (here sent) asymmetric asymmetric-is-fair f in
+    let s = off-flow-is (here sent) asymmetric refl f (none-is-cut _ _ _ _ (none .if1 .taken) fits) in
+    off-stored asymmetric _ _ _ _ _ s (passed .send .ensures .1) (stored .put-off-flow .ensures)
 
 send-requires-2 : tie.Need-send-requires-2
 send-requires-2 c κs =
@@ -46,18 +43,16 @@ send-requires-2 c κs =
     let some = given .before .before in
     let sent = some .before .before in
     let start = begin sent in
-    let row = sent .before .before .row-at in
-    let count = sent .before .count-at in
     let o = c .before .before .off-demand-at in
     let d = sent .sending .ensures in
-    let m = sent-is (start .pre .0 .0) (row .ensures) (count .ensures) (o .ensures) (ap₂ (λ a b. a - b) d (c .before .least .ensures ∙ ap (min (o .result)) d) ∙ given-sends (row .result) (count .result) (o .result) (some .if1 .left) (given .if2 .taken)) in
+    let m = sent-is (here sent) (o .ensures) (ap₂ (λ a b. a - b) d (c .before .least .ensures ∙ ap (min (o .result)) d) ∙ given-sends _ _ _ (some .if1 .left) (given .if2 .taken)) in
     (start .pre .0, (m, start .pre .1))
 
 cut-to-requires : tie.Need-cut-to-requires
 cut-to-requires c κs =
     let passed = c .before .before .before in
     let sent = passed .before .before .before .before .before .before .before .before in
-    is-in-the-cell (begin sent .pre .0 .0) (sent .before .before .row-at .ensures) (sent .before .count-at .ensures) asymmetric asymmetric-is-fair (passed .send2 .ensures .0)
+    is-in-the-cell (here sent) asymmetric asymmetric-is-fair (passed .send2 .ensures .0)
 
 put-off-flow-requires-2 : tie.Need-put-off-flow-requires-2
 put-off-flow-requires-2 c κs =
@@ -73,24 +68,17 @@ returns-2 c =
     let given = taken .before .before in
     let some = given .before .before in
     let sent = some .before .before in
-    let start = begin sent in
-    let row = sent .before .before .row-at in
-    let count = sent .before .count-at in
     let o = taken .before .off-demand-at in
     let f = passed .send2 .ensures .0 in
-    let fits = is-in-the-cell (start .pre .0 .0) (row .ensures) (count .ensures) asymmetric asymmetric-is-fair f in
-    let leaves = taken .least .ensures ∙ ap (min (o .result)) (sent .sending .ensures) ∙ given-leaves (row .result) (count .result) (o .result) (passed .send2 .result) (some .if1 .left) (given .if2 .taken) in
-    let s = off-flow-is (start .pre .0 .0) (row .ensures) (count .ensures) asymmetric (o .ensures) f (stored .before .cut-to .ensures ∙ cut (row .result) (count .result) (o .result) (passed .send2 .result) leaves fits) in
-    off-stored asymmetric (corridorOf (start .args .table .now) (start .args .state .now)) (start .args .demand .now) (start .args .n) (start .args .sheet .now) (start .args .i) s (passed .send2 .ensures .1) (stored .put-off-flow2 .ensures)
+    let fits = is-in-the-cell (here sent) asymmetric asymmetric-is-fair f in
+    let leaves = taken .least .ensures ∙ ap (min (o .result)) (sent .sending .ensures) ∙ given-leaves _ _ _ _ (some .if1 .left) (given .if2 .taken) in
+    let s = off-flow-is (here sent) asymmetric (o .ensures) f (stored .before .cut-to .ensures ∙ cut _ _ _ _ leaves fits) in
+    off-stored asymmetric _ _ _ _ _ s (passed .send2 .ensures .1) (stored .put-off-flow2 .ensures)
 
 split-stays-requires : tie.Need-split-stays-requires
 split-stays-requires c κs =
     let sent = c .before .before .before .before .before in
-    let start = begin sent in
-    let row = sent .before .before .row-at in
-    let count = sent .before .count-at in
-    let v = v-fits (start .pre .0 .0) (row .ensures) (count .ensures) in
-    (b-fits (start .pre .0 .0) (row .ensures) (count .ensures), omega (arith, sent .sending .ensures, share-within (row .result .v) (count .result) v))
+    (b-fits (here sent), omega (arith, sent .sending .ensures, share-within (sent .before .before .row-at .result .v) (sent .before .count-at .result) (v-fits (here sent))))
 
 send-requires-3 : tie.Need-send-requires-3
 send-requires-3 c κs =
@@ -98,21 +86,19 @@ send-requires-3 c κs =
     let some = split .before .before in
     let sent = some .before .before in
     let start = begin sent in
-    let row = sent .before .before .row-at in
-    let count = sent .before .count-at in
-    let m = sent-is (start .pre .0 .0) (row .ensures) (count .ensures) refl (c .split-stays .ensures ∙ ap (λ d. share d (ONE - row .result .b)) (sent .sending .ensures) ∙ split-sends (row .result) (count .result) _ (some .if1 .left) (split .if2 .left)) in
+    let m = sent-is (here sent) refl (c .split-stays .ensures ∙ ap (λ d. share d (ONE - sent .before .before .row-at .result .b)) (sent .sending .ensures) ∙ split-sends _ _ _ (some .if1 .left) (split .if2 .left)) in
     (start .pre .0, (m, start .pre .1))
 
 split-leaves-requires : tie.Need-split-leaves-requires
 split-leaves-requires c κs =
     let sent = c .before .before .before .before .before .before .before .before .before .before in
-    b-fits (begin sent .pre .0 .0) (sent .before .before .row-at .ensures) (sent .before .count-at .ensures)
+    b-fits (here sent)
 
 cut-to-requires-2 : tie.Need-cut-to-requires-2
 cut-to-requires-2 c κs =
     let passed = c .before .before .before .before in
     let sent = passed .before .before .before .before .before .before .before in
-    is-in-the-cell (begin sent .pre .0 .0) (sent .before .before .row-at .ensures) (sent .before .count-at .ensures) asymmetric asymmetric-is-fair (passed .send3 .ensures .0)
+    is-in-the-cell (here sent) asymmetric asymmetric-is-fair (passed .send3 .ensures .0)
 
 put-off-flow-requires-3 : tie.Need-put-off-flow-requires-3
 put-off-flow-requires-3 c κs =
@@ -128,14 +114,11 @@ returns-3 c =
     let split = passed .before .before .before in
     let some = split .before .before in
     let sent = some .before .before in
-    let start = begin sent in
-    let row = sent .before .before .row-at in
-    let count = sent .before .count-at in
     let f = passed .send3 .ensures .0 in
-    let fits = is-in-the-cell (start .pre .0 .0) (row .ensures) (count .ensures) asymmetric asymmetric-is-fair f in
-    let leaves = left .split-leaves .ensures ∙ split-leaves (row .result) (count .result) _ (passed .send3 .result) (some .if1 .left) (split .if2 .left) in
-    let s = off-flow-is (start .pre .0 .0) (row .ensures) (count .ensures) asymmetric refl f (stored .before .cut-to2 .ensures ∙ cut (row .result) (count .result) _ (passed .send3 .result) leaves fits) in
-    off-stored asymmetric (corridorOf (start .args .table .now) (start .args .state .now)) (start .args .demand .now) (start .args .n) (start .args .sheet .now) (start .args .i) s (passed .send3 .ensures .1) (stored .put-off-flow3 .ensures)
+    let fits = is-in-the-cell (here sent) asymmetric asymmetric-is-fair f in
+    let leaves = left .split-leaves .ensures ∙ split-leaves _ _ _ _ (some .if1 .left) (split .if2 .left) in
+    let s = off-flow-is (here sent) asymmetric refl f (stored .before .cut-to2 .ensures ∙ cut _ _ _ _ leaves fits) in
+    off-stored asymmetric _ _ _ _ _ s (passed .send3 .ensures .1) (stored .put-off-flow3 .ensures)
 
 pub pass-cell-spec : {M : Type 1} → statement M
 pass-cell-spec =

@@ -7,7 +7,7 @@ use Rattle.layout.specs.Corridor.{corridorOf}
 use Rattle.period.specs.Sharing.{asymmetric}
 use Rattle.period.specs.Period.{sentAt, flowAt}
 use Rattle.period.proofs.Fair.{asymmetric-is-fair}
-use Rattle.period.proofs.Nodes.{last-flow-is, last-stored, v-fits, b-fits, sent-is, off-flow-is, is-in-the-cell}
+use Rattle.period.proofs.Nodes.{CellRead, last-flow-is, last-stored, v-fits, b-fits, sent-is, off-flow-is, is-in-the-cell}
 use borrow.Author.Needs.{needs}
 use Rattle.period.proofs.passes.pass_last.Statement.{statement}
 use Rattle.period.proofs.passes.pass_last.Tie as tie
@@ -15,11 +15,14 @@ use Rattle.period.proofs.passes.pass_last.Tie as tie
 abbrev begin : tie.After-off-demand-at → tie.Start
 begin c = c .before .before .before .before .before .before .before
 
+here : (c : tie.After-off-demand-at) → let lists = begin c .args in CellRead (lists .n) (corridorOf (lists .table .now) (lists .state .now)) (lists .demand .now) (lists .i) (c .before .before .row-at .result) (c .before .count-at .result)
+here c = record { known = begin c .pre .0 .1; is-row = c .before .before .row-at .ensures; is-count = c .before .count-at .ensures }
+
 sends : (c : tie.After-least) → let start = begin (c .before .before .before) in c .before .before .would-send .result ≡ sentAt (corridorOf (start .args .table .now) (start .args .state .now)) (start .args .demand .now) (start .args .i)
 sends c =
     let sent = c .before .before in
     let read = sent .before in
-    sent-is (begin read .pre .0 .1) (read .before .before .row-at .ensures) (read .before .count-at .ensures) (read .off-demand-at .ensures) (sent .would-send .ensures)
+    sent-is (here read) (read .off-demand-at .ensures) (sent .would-send .ensures)
 
 -- the last cell's offer passes whole
 flows : (c : tie.After-least) → let start = begin (c .before .before .before) in c .least .result ≡ flowAt asymmetric (corridorOf (start .args .table .now) (start .args .state .now)) (start .args .demand .now) (suc (start .args .i))
@@ -31,18 +34,13 @@ flows c =
 
 would-send-requires : tie.Need-would-send-requires
 would-send-requires c κs =
-    let known = begin c .pre .0 .1 in
-    let row = c .before .before .row-at .ensures in
-    (v-fits known row (c .before .count-at .ensures), b-fits known row (c .before .count-at .ensures))
+    (v-fits (here c), b-fits (here c))
 
 off-flow-requires : tie.Need-off-flow-requires
 off-flow-requires c κs =
     let f = c .before .before .before .before .before .before .before .before .before .before in
     let read = f .before .before .before in
-    let known = begin read .pre .0 .1 in
-    let row = read .before .before .row-at .ensures in
-    let count = read .before .count-at .ensures in
-    (b-fits known row count, is-in-the-cell known row count asymmetric asymmetric-is-fair (flows f))
+    (b-fits (here read), is-in-the-cell (here read) asymmetric asymmetric-is-fair (flows f))
 
 put-off-flow-requires : tie.Need-put-off-flow-requires
 put-off-flow-requires c κs =
@@ -61,8 +59,8 @@ returns c =
     let read = f .before .before .before in
     let start = begin read in
     let known = start .pre .0 .1 in
-    let s = off-flow-is known (read .before .before .row-at .ensures) (read .before .count-at .ensures) asymmetric (read .off-demand-at .ensures) (flows f) (left .off-flow .ensures) in
-    last-stored asymmetric (corridorOf (start .args .table .now) (start .args .state .now)) (start .args .demand .now) (start .args .n) (start .args .sheet .now) (omega (arith, known .all, start .pre .0 .0)) (sends f) (f .before .capacity-now .ensures) (flows f) (moded .before .mode .ensures) s (rw add-one at (flowed .put-flow .ensures)) (moded .put-mode .ensures) (stored .put-off-flow .ensures)
+    let s = off-flow-is (here read) asymmetric (read .off-demand-at .ensures) (flows f) (left .off-flow .ensures) in
+    last-stored asymmetric _ _ _ _ (omega (arith, known .all, start .pre .0 .0)) (sends f) (f .before .capacity-now .ensures) (flows f) (moded .before .mode .ensures) s (rw add-one at (flowed .put-flow .ensures)) (moded .put-mode .ensures) (stored .put-off-flow .ensures)
 
 pub pass-last-spec : {M : Type 1} → statement M
 pass-last-spec =

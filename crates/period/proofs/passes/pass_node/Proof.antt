@@ -1,6 +1,5 @@
 -- `period::passes::pass_node` meets its contract. Assumes nothing.
 use native.Mathlib.Omega.{arith}
-use Rattle.layout.specs.Corridor.{corridorOf}
 use Rattle.period.specs.Sharing.{asymmetric}
 use Rattle.period.proofs.Nodes.{node-is, node-stored}
 use borrow.Author.Needs.{needs}
@@ -19,8 +18,8 @@ returns c =
     let node = written .before .before in
     let read = node .before .before in
     let start = read .before .before .before .before .before .before in
-    let is = node-is asymmetric (corridorOf (start .args .table .now) (start .args .state .now)) (start .args .demand .now) (start .args .p) (read .row-at .ensures) (node .before .count-at .ensures) (start .pre .1 .0) (read .before .ramp-offer .ensures) (node .asymmetric .ensures) in
-    (is, node-stored asymmetric (corridorOf (start .args .table .now) (start .args .state .now)) (start .args .demand .now) (start .args .n) (start .args .sheet .now) (omega (arith, start .pre .0 .all, start .pre .0 .inside)) is (written .put-flow .ensures) (stored .put-on-flow .ensures))
+    let is = node-is asymmetric _ _ _ (read .row-at .ensures) (node .before .count-at .ensures) (start .pre .1 .0) (read .before .ramp-offer .ensures) (node .asymmetric .ensures) in
+    (is, node-stored asymmetric _ _ _ _ (omega (arith, start .pre .0 .all, start .pre .0 .inside)) is (written .put-flow .ensures) (stored .put-on-flow .ensures))
 
 pub pass-node-spec : {M : Type 1} → statement M
 pass-node-spec =

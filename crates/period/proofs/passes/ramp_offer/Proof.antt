@@ -1,5 +1,4 @@
 -- `period::passes::ramp_offer` meets its contract. Assumes nothing.
-use mathlib.Core.Path.{_∙_}
 use borrow.Author.Needs.{needs}
 use Rattle.period.proofs.passes.ramp_offer.Statement.{statement}
 use Rattle.period.proofs.passes.ramp_offer.Tie as tie

@@ -27,7 +27,7 @@ returns c =
     let start = read .before .before .before .before .before in
     let below : suc (start .args .i) < cellsOf (corridorOf (start .args .table .now) (start .args .state .now)) = omega (arith, start .pre .0 .1 .all, start .pre .0 .1 .inside) in
     let told = rw add-one at (passed .pass-node .ensures) in
-    (ap (λ passed. passed .main) (told .0) ∙ sym (flow-in-is asymmetric _ _ _ below), mode-stored asymmetric (corridorOf (start .args .table .now) (start .args .state .now)) (start .args .demand .now) (start .args .n) (start .args .sheet .now) below (start .pre .1 .0) (read .capacity-now .ensures) (told .0) (told .1) (moded .mode .ensures) (stored .put-mode .ensures))
+    (ap (λ passed. passed .main) (told .0) ∙ sym (flow-in-is asymmetric _ _ _ below), mode-stored asymmetric _ _ _ _ below (start .pre .1 .0) (read .capacity-now .ensures) (told .0) (told .1) (moded .mode .ensures) (stored .put-mode .ensures))
 
 pub send-spec : {M : Type 1} → statement M
 send-spec =
