@@ -1,7 +1,7 @@
 pub mod Fair
 pub mod Facts
-pub mod Nodes
 pub mod OffRamps
+pub mod Nodes
 pub mod Reading
 pub mod Laws
 pub mod Filling

@@ -1,5 +1,5 @@
 -- What passes at each node, and what each position sends there. Assumes nothing.
-use Prim.Native.Nat.{ℕ, suc, _≤_, _<_, min}
+use Prim.Native.Nat.{ℕ, suc, _-_, _≤_, _<_, min}
 use mathlib.Core.Path.{_≡_, refl, sym, _∙_}
 use mathlib.Core.Bool.{Bool, true, false, _&&_}
 use mathlib.Core.List.{List}
@@ -12,12 +12,13 @@ use Rattle.layout.specs.Layout.{offDemandAt}
 use Rattle.layout.specs.Sheet.{withFlow, withOffFlow, withOnFlow, withMode}
 use Rattle.layout.specs.Corridor.{Corridor, cellsOf, rowOf, countOf}
 use Rattle.period.specs.declared.Passed.{Passed}
-use Rattle.period.specs.Cell.{M, offFlow, modeOf}
+use Rattle.period.specs.Cell.{M, leaving, offFlow, modeOf}
 use Rattle.period.specs.Sharing.{Sharing}
 use Rattle.period.specs.Fair.{Fair}
 use Rattle.period.specs.Period.{capacityNow, sentAt, offerAt, rampOfferAt, nodeAt, flowAt, offFlowAt, modeAt}
 use Rattle.period.specs.Private.{nodePassed, cellSent, cellPassed, lastPassed, Workable}
 use Rattle.period.proofs.Fair.{sends-what-it-has}
+use Rattle.period.proofs.OffRamps.{cut}
 
 module _ (way : Sharing) (c : Corridor) (demand : List ℕ) where
   -- the flow into a cell is what passes at its node; past the last cell the offer passes whole
@@ -53,11 +54,6 @@ module _ (way : Sharing) (c : Corridor) (demand : List ℕ) where
     pub mode-stored : {i m capacity mode : ℕ} {before after : List ℕ} {passed : Passed} → suc i < cellsOf c → m ≡ sentAt c demand i → capacity ≡ capacityNow c i → passed ≡ nodeAt way c demand (suc i) → before ≡ nodePassed way c demand n sheet (suc i) → mode ≡ modeOf m capacity (passed .clear) → after ≡ withMode n before i mode → after ≡ cellSent way c demand n sheet i
     unfolding cellSent
     mode-stored {i} h m capacity is before mode after = after ∙ rw (mode, before, is, m, capacity, mode-is i h)
-
-    -- and its s
-    pub off-stored : (i : ℕ) {s : ℕ} {before after : List ℕ} → s ≡ offFlowAt way c demand i → before ≡ cellSent way c demand n sheet i → after ≡ withOffFlow n before i s → after ≡ cellPassed way c demand n sheet i
-    unfolding cellPassed
-    off-stored i s before after = after ∙ rw (s, before)
 
     -- what the last cell sends
     pub last-stored : {i m capacity mode s : ℕ} {flowed moded after : List ℕ} {f : ℕ} → cellsOf c ≤ suc i → m ≡ sentAt c demand i → capacity ≡ capacityNow c i → f ≡ flowAt way c demand (suc i) → mode ≡ modeOf m capacity true → s ≡ offFlowAt way c demand i → flowed ≡ withFlow sheet (suc i) f → moded ≡ withMode n flowed i mode → after ≡ withOffFlow n moded i s → after ≡ lastPassed way c demand n sheet i
@@ -123,3 +119,9 @@ module _ {n i count : ℕ} {c : Corridor} {demand : List ℕ} {row : Row} (read 
 
   pub is-in-the-cell : (way : Sharing) {f : ℕ} → Fair way → f ≡ flowAt way c demand (suc i) → f ≤ count
   is-in-the-cell way fair f = rw (f, read .is-count) (flow-is-in-the-cell way fair c demand i (read .known .v))
+
+  -- what would leave by its off-ramp, cut to what f leaves in the cell, is stored
+  pub off-stored : (way : Sharing) → Fair way → (sheet : List ℕ) {o f s least : ℕ} {before after : List ℕ} → o ≡ offDemandAt n demand i → f ≡ flowAt way c demand (suc i) → s ≡ leaving row count o f → least ≡ min s (count - f) → before ≡ cellSent way c demand n sheet i → after ≡ withOffFlow n before i least → after ≡ cellPassed way c demand n sheet i
+  unfolding cellPassed
+  off-stored way fair sheet o f s least before after =
+      after ∙ rw (off-flow-is way o f (least ∙ cut row count _ _ s (is-in-the-cell way fair f)), before)

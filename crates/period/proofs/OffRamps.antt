@@ -37,6 +37,3 @@ module _ (r : Row) (n o : ℕ) where
     -- s, cut to what f leaves in the cell
     pub cut : {s : ℕ} → s ≡ leaving r n o f → f ≤ n → min s (n - f) ≡ offFlow r n o f
     cut is h = ap (λ s. min s (n - f)) is ∙ clipped r n o f h
-
-    pub none-is-cut : r .off ≡ 0 → f ≤ n → 0 ≡ offFlow r n o f
-    none-is-cut none h = omega (arith, cut (none-leaves none) h)

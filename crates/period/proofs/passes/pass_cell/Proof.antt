@@ -7,8 +7,8 @@ use Rattle.whole.proofs.Shares.{share-within}
 use Rattle.layout.specs.Corridor.{corridorOf}
 use Rattle.period.specs.Sharing.{asymmetric}
 use Rattle.period.proofs.Fair.{asymmetric-is-fair}
-use Rattle.period.proofs.OffRamps.{none-sends, given-sends, split-sends, given-leaves, split-leaves, cut, none-is-cut}
-use Rattle.period.proofs.Nodes.{CellRead, off-stored, v-fits, b-fits, sent-is, off-flow-is, is-in-the-cell}
+use Rattle.period.proofs.OffRamps.{none-sends, given-sends, split-sends, none-leaves, given-leaves, split-leaves}
+use Rattle.period.proofs.Nodes.{CellRead, off-stored, v-fits, b-fits, sent-is, is-in-the-cell}
 use borrow.Author.Needs.{needs}
 use Rattle.period.proofs.passes.pass_cell.Statement.{statement}
 use Rattle.period.proofs.passes.pass_cell.Tie as tie
@@ -31,11 +31,7 @@ returns c =
     let stored = c .before .before in
     let passed = stored .before .before .before .before in
     let none = passed .before .before in
-    let sent = none .before .before in
-    let f = passed .send .ensures .0 in
-    let fits = is-in-the-cell (here sent) asymmetric asymmetric-is-fair f in
-    let s = off-flow-is (here sent) asymmetric refl f (none-is-cut _ _ _ _ (none .if1 .taken) fits) in
-    off-stored asymmetric _ _ _ _ _ s (passed .send .ensures .1) (stored .put-off-flow .ensures)
+    off-stored (here (none .before .before)) asymmetric asymmetric-is-fair _ refl (passed .send .ensures .0) (none-leaves _ _ _ _ (none .if1 .taken)) (omega arith) (passed .send .ensures .1) (stored .put-off-flow .ensures)
 
 send-requires-2 : tie.Need-send-requires-2
 send-requires-2 c κs =
@@ -69,11 +65,8 @@ returns-2 c =
     let some = given .before .before in
     let sent = some .before .before in
     let o = taken .before .off-demand-at in
-    let f = passed .send2 .ensures .0 in
-    let fits = is-in-the-cell (here sent) asymmetric asymmetric-is-fair f in
     let leaves = taken .least .ensures ∙ ap (min (o .result)) (sent .sending .ensures) ∙ given-leaves _ _ _ _ (some .if1 .left) (given .if2 .taken) in
-    let s = off-flow-is (here sent) asymmetric (o .ensures) f (stored .before .cut-to .ensures ∙ cut _ _ _ _ leaves fits) in
-    off-stored asymmetric _ _ _ _ _ s (passed .send2 .ensures .1) (stored .put-off-flow2 .ensures)
+    off-stored (here sent) asymmetric asymmetric-is-fair _ (o .ensures) (passed .send2 .ensures .0) leaves (stored .before .cut-to .ensures) (passed .send2 .ensures .1) (stored .put-off-flow2 .ensures)
 
 split-stays-requires : tie.Need-split-stays-requires
 split-stays-requires c κs =
@@ -113,12 +106,8 @@ returns-3 c =
     let passed = left .before .before .before .before in
     let split = passed .before .before .before in
     let some = split .before .before in
-    let sent = some .before .before in
-    let f = passed .send3 .ensures .0 in
-    let fits = is-in-the-cell (here sent) asymmetric asymmetric-is-fair f in
     let leaves = left .split-leaves .ensures ∙ split-leaves _ _ _ _ (some .if1 .left) (split .if2 .left) in
-    let s = off-flow-is (here sent) asymmetric refl f (stored .before .cut-to2 .ensures ∙ cut _ _ _ _ leaves fits) in
-    off-stored asymmetric _ _ _ _ _ s (passed .send3 .ensures .1) (stored .put-off-flow3 .ensures)
+    off-stored (here (some .before .before)) asymmetric asymmetric-is-fair _ refl (passed .send3 .ensures .0) leaves (stored .before .cut-to2 .ensures) (passed .send3 .ensures .1) (stored .put-off-flow3 .ensures)
 
 pub pass-cell-spec : {M : Type 1} → statement M
 pass-cell-spec =
