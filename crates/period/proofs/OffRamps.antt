@@ -1,7 +1,6 @@
 -- What a cell would send, and what leaves by its off-ramp, by the off-ramp's kind. Assumes nothing.
 use Prim.Native.Nat.{ℕ, _-_, _*_, _/_, _≤_, min}
 use mathlib.Core.Path.{_≡_, ap, _∙_}
-use native.Mathlib.Omega.{arith}
 use borrow.Author.Tests.{eq-eqb, ne-eqb}
 use Rattle.whole.specs.Share.{ONE, share}
 use Rattle.layout.specs.declared.Row.{Row}
