@@ -14,7 +14,7 @@ use Rattle.whole.proofs.Tests.{both-hold}
 use Rattle.accept_tables.proofs.Accepted.{TableFits, table-fits}
 use Rattle.accept_rows.proofs.Accepted.{StateFits, RowFits, state-fits, row-fits}
 use Rattle.period.specs.Period.{RowAccepted}
-use Rattle.period.specs.Private.{Sendable, Workable}
+use Rattle.period.specs.Private.{Workable}
 use Rattle.layout.specs.Corridor.{Corridor, cellsOf, rowOf}
 
 pub record Facts (c : Corridor) (demand : List ℕ) : Type 0 where
@@ -54,18 +54,8 @@ workable {c} {i = i} known all h =
       demand-length = rw all (known .demand-length);
       v = row .v .most;
       b = omega (arith, row .b .most, with-ramp-at-most (rowOf c i .off) 65_535);
-      capacity = row .capacity .most;
       count = known .s .cells i h .count;
     }
 
 pub last-workable : {n : ℕ} (c : Corridor) (demand : List ℕ) → RowAccepted c demand → n ≡ cellsOf c → Workable n c demand (n - 1)
 last-workable c demand e all = workable (facts c demand e) all (omega (arith, some-cell c demand e all))
-
-pub sendable : {c : Corridor} {demand : List ℕ} {n i : ℕ} → Workable n c demand i → Sendable c i
-sendable known =
-    record {
-      inside = omega (arith, known .all, known .inside);
-      state-length = rw (known .all) at (known .state-length);
-      v = known .v;
-      b = known .b;
-    }

@@ -8,7 +8,7 @@ use Rattle.layout.specs.Layout.{stateLength, entryQueue, countAt, queueAt, dema
 use Rattle.layout.specs.Sheet.{sheetLength, flowIn, offFlowIn, onFlowIn, withFlow, withOffFlow, withOnFlow, withMode}
 use Rattle.layout.specs.Corridor.{Corridor, cellsOf, rowOf, countOf}
 use Rattle.period.specs.Sharing.{Sharing}
-use Rattle.period.specs.Period.{capacityNow, flowAt, offFlowAt, onFlowAt, modeAt}
+use Rattle.period.specs.Period.{flowAt, offFlowAt, onFlowAt, modeAt}
 
 -- What the walk over the nodes leaves of a sheet of n cells.
 module _ (way : Sharing) (c : Corridor) (demand : List ℕ) (n : ℕ) (sheet : List ℕ) where
@@ -29,12 +29,10 @@ module _ (way : Sharing) (c : Corridor) (demand : List ℕ) (n : ℕ) (sheet : L
   lastPassed i =
       withOffFlow n (withMode n (withFlow sheet (suc i) (flowAt way c demand (suc i))) i (modeAt way c demand i)) i (offFlowAt way c demand i)
 
--- what working out what the cell of index i sends asks of the corridor
-pub record Sendable (c : Corridor) (i : ℕ) : Type 0 where
+-- what reading the cell of index i asks of the corridor
+pub record Readable (c : Corridor) (i : ℕ) : Type 0 where
   pub inside : i < cellsOf c
   pub state-length : length (c .state) ≡ stateLength (cellsOf c)
-  pub v : rowOf c i .v ≤ 65_536
-  pub b : rowOf c i .b < 65_536
 
 -- what the work on the cell of index i, one of n, asks of the corridor and the demand row
 pub record Workable (n : ℕ) (c : Corridor) (demand : List ℕ) (i : ℕ) : Type 0 where
@@ -44,7 +42,6 @@ pub record Workable (n : ℕ) (c : Corridor) (demand : List ℕ) (i : ℕ) : Typ
   pub demand-length : length demand ≡ demandLength n
   pub v : rowOf c i .v ≤ 65_536
   pub b : rowOf c i .b < 65_536
-  pub capacity : capacityNow c i ≤ 1_000_000
   pub count : countOf c i ≤ rowOf c i .jam
 
 -- what bringing the cell of index i up to date asks of the lists: nothing that is added or taken away wraps

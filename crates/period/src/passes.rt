@@ -1,6 +1,6 @@
 // The two passes of a period over the cells, each from the last cell up the road.
 ghost use mathlib.Core.Path.{_≡_};
-ghost use Prim.Native.Nat.{suc, _≤_, _<_};
+ghost use Prim.Native.Nat.{suc, _<_};
 ghost use lib.ListN.{length};
 ghost use Rattle.layout.specs.Layout.{cells};
 ghost use Rattle.layout.specs.Sheet.{sheetLength};
@@ -8,7 +8,7 @@ ghost use Rattle.layout.specs.Corridor.{corridorOf};
 ghost use Rattle.period.specs.Sharing.{asymmetric};
 ghost use Rattle.period.specs.Updated.{cellAfter, updated};
 ghost use Rattle.period.specs.Period.{RowAccepted, capacityNow, limitNow, sentAt, offerAt, rampOfferAt, nodeAt, flowAt, sheetOf};
-ghost use Rattle.period.specs.Private.{nodePassed, cellSent, cellPassed, lastPassed, Sendable, Workable, CellUpdatable, Updatable};
+ghost use Rattle.period.specs.Private.{nodePassed, cellSent, cellPassed, lastPassed, Readable, Workable, CellUpdatable, Updatable};
 use crate::Passed;
 use crate::cell::*;
 use crate::node::asymmetric;
@@ -18,7 +18,7 @@ use whole::least;
 
 // F of the cell of index i, as it holds now.
 fn capacity_now(table: &[u32], state: &[u32], i: usize) -> u32
-    requires { ⌜ Sendable (corridorOf (now table) (now state)) i ⌝ }
+    requires { ⌜ Readable (corridorOf (now table) (now state)) i ⌝ }
     ensures { λ r. ⌜ r ≡ capacityNow (corridorOf (now (table .entry)) (now (state .entry))) i ⌝ }
 {
     row_at(table, i).capacity
