@@ -23,11 +23,11 @@ pub(crate) fn split_stays(b: u32, d: u64) -> u64
 }
 
 // What leaves by a split of b, of a flow f.
-pub(crate) fn split_leaves(b: u32, f: u32) -> u64
-    requires { ⌜ b < 65_536 ⌝ }
+pub(crate) fn split_leaves(b: u32, f: u64) -> u64
+    requires { ⌜ (b < 65_536) × (f ≤ 4_294_967_295) ⌝ }
     ensures { λ r. ⌜ r ≡ f * b / (ONE - b) ⌝ }
 {
-    (f as u64) * (b as u64) / ((65_536 - b) as u64)
+    f * (b as u64) / ((65_536 - b) as u64)
 }
 
 // M.
@@ -46,8 +46,8 @@ pub(crate) fn would_send(row: Row, n: u32, o: u32) -> u64
 }
 
 // What would leave by the off-ramp, of a flow f.
-fn leaving(row: Row, n: u32, o: u32, f: u32) -> u64
-    requires { ⌜ row .b < 65_536 ⌝ }
+fn leaving(row: Row, n: u32, o: u32, f: u64) -> u64
+    requires { ⌜ (row .b < 65_536) × (f ≤ n) ⌝ }
     ensures { λ r. ⌜ r ≡ leaving row n o f ⌝ }
 {
     if row.off == 0 {
@@ -60,15 +60,15 @@ fn leaving(row: Row, n: u32, o: u32, f: u32) -> u64
 }
 
 // Never more than f leaves in the cell.
-pub(crate) fn cut_to(s: u64, n: u32, f: u32) -> u32
+pub(crate) fn cut_to(s: u64, n: u32, f: u64) -> u32
     requires { ⌜ f ≤ n ⌝ }
     ensures { λ r. ⌜ r ≡ min s (n - f) ⌝ }
 {
-    least(s, (n - f) as u64) as u32
+    least(s, n as u64 - f) as u32
 }
 
 // s.
-pub(crate) fn off_flow(row: Row, n: u32, o: u32, f: u32) -> u32
+pub(crate) fn off_flow(row: Row, n: u32, o: u32, f: u64) -> u32
     requires { ⌜ (row .b < 65_536) × (f ≤ n) ⌝ }
     ensures { λ r. ⌜ r ≡ offFlow row n o f ⌝ }
 {

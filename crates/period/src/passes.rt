@@ -76,7 +76,7 @@ fn send(
     sheet: &mut [u32],
     i: usize,
     m: u64,
-) -> u32
+) -> u64
     requires { ⌜ Workable n (corridorOf (now table) (now state)) (now demand) i × Workable n (corridorOf (now table) (now state)) (now demand) (suc i) ⌝ }
     requires { ⌜ (m ≡ sentAt (corridorOf (now table) (now state)) (now demand) i) × (length (now sheet) ≡ sheetLength n) ⌝ }
     ensures sends { λ r. ⌜ r ≡ flowAt asymmetric (corridorOf (now (table .entry)) (now (state .entry))) (now (demand .entry)) (suc i) ⌝ }
@@ -86,7 +86,7 @@ fn send(
     let a = least(m, capacity as u64) as u32;
     let passed = pass_node(n, table, state, demand, sheet, i + 1, a);
     put_mode(sheet, n, i, mode(m, capacity, passed.clear));
-    passed.main
+    passed.main as u64
 }
 
 // The cell of index i and the node downstream of it. The kind of the off-ramp is tested once, before the node: with tests before and after it
@@ -125,8 +125,8 @@ fn pass_last(n: usize, table: &[u32], state: &[u32], demand: &[u32], sheet: &mut
     let o = off_demand_at(n, demand, i);
     let m = would_send(row, count, o);
     let capacity = capacity_now(table, state, i);
-    let f = least(m, capacity as u64) as u32;
-    put_flow(sheet, i + 1, f);
+    let f = least(m, capacity as u64);
+    put_flow(sheet, i + 1, f as u32);
     put_mode(sheet, n, i, mode(m, capacity, true));
     put_off_flow(sheet, n, i, off_flow(row, count, o, f));
 }

@@ -84,8 +84,9 @@ send-requires-3 c κs =
 
 split-leaves-requires : tie.Need-split-leaves-requires
 split-leaves-requires c κs =
-    let sent = c .before .before .before .before .before .before .before .before .before .before in
-    b-fits (here sent)
+    let passed = c .before .before .before in
+    let sent = passed .before .before .before .before .before .before .before in
+    (b-fits (here sent), omega (arith, is-in-the-cell (here sent) asymmetric asymmetric-is-fair (passed .send3 .ensures .0)))
 
 cut-to-requires-2 : tie.Need-cut-to-requires-2
 cut-to-requires-2 c κs =

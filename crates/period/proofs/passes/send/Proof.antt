@@ -20,7 +20,7 @@ pass-node-requires c κs =
 
 returns : tie.Need-returns
 returns c =
-    let stored = c .before .before in
+    let stored = c .before .before .before in
     let moded = stored .before in
     let passed = moded .before .before .before .before in
     let read = passed .before .before .before in
@@ -41,5 +41,6 @@ send-spec =
     pass-node-requires
     (λ c κs. search needs)
     (λ c κs. search needs)
+    (λ c. search needs)
     (λ c. search needs)
     returns)
