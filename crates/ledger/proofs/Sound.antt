@@ -8,6 +8,7 @@ use Rattle.accept_rows.specs.Vehicles.{vehicles}
 use Rattle.period.specs.Sharing.{Sharing}
 use Rattle.ledger.specs.Calls.{Call, IsAccepted, leaves, leavesAll, over, accepts, letsOut, acceptsAt, letsInAt, queueOfRamp, rampsOf}
 use Rattle.ledger.specs.Demand3.{Demand3}
+use Rattle.ledger.proofs.Held.{counts-held, entry-held, queues-held, ramps-held-once}
 
 -- from one corridor to another, with what was accepted and what went
 pub record Sound (c after : Corridor) (brought out : ℕ) (broughtAt inAt : ℕ → ℕ) : Type 0 where
@@ -44,4 +45,13 @@ module _ (way : Sharing) where
   pub demand-3-from : ((call : Call) → CallIsSound call) → (start : Corridor) → IsAccepted start → (calls : List Call) → Demand3 way start calls
   demand-3-from each start e calls =
       let sound = all-sound each calls start e in
-      record { accepted = sound .accepted; balance = sound .balance; queues = sound .queues; sameRamps = sound .ramps }
+      record {
+        accepted = sound .accepted;
+        counts = counts-held (leavesAll way calls start) (sound .accepted);
+        entryQueue = entry-held (leavesAll way calls start) (sound .accepted);
+        rampQueues = queues-held (leavesAll way calls start) (sound .accepted);
+        rampsOnce = ramps-held-once (leavesAll way calls start) (sound .accepted);
+        balance = sound .balance;
+        queues = sound .queues;
+        sameRamps = sound .ramps;
+      }
