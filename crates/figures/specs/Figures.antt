@@ -9,7 +9,7 @@ use Rattle.accept_rows.specs.Vehicles.{vehicles}
 use Rattle.accept_rows.specs.Acceptance.{rowChecks}
 use Rattle.period.specs.Sharing.{Sharing}
 use Rattle.period.specs.Period.{sheetOf, stateAfter, corridorAfter}
-use Rattle.ledger.specs.Account.{demanded, leftRoad}
+use Rattle.ledger.specs.Account.{rowAccount}
 use Rattle.period_run.specs.Run.{isAccepted}
 use Rattle.recut.specs.Recut.{newState, recutChecks}
 
@@ -44,8 +44,8 @@ holds way (period c demand sheet after) =
     isAccepted (answer (rowChecks c demand)) && same (sheetOf way c demand) sheet && same (stateAfter way c demand) after
 holds way (balance c demand before brought left after) =
     eqb (vehicles c) before
-    && eqb (demanded c demand) brought
-    && eqb (leftRoad way c demand) left
+    && eqb (rowAccount way c demand .brought) brought
+    && eqb (rowAccount way c demand .out) left
     && eqb (vehicles (corridorAfter way c demand)) after
 holds way (pieces n shares) =
     isAccepted (answer (recutChecks (ofTen n) (3 ∷ []) thirds (0 ∷ 0 ∷ 0 ∷ 0 ∷ 0 ∷ 0 ∷ 0 ∷ [])))

@@ -14,7 +14,7 @@ use Rattle.period.specs.Sharing.{Sharing}
 use Rattle.period.specs.Period.{flowAt, offFlowAt, onFlowAt, corridorAfter}
 use Rattle.period.specs.Fair.{Fair}
 use Rattle.period.proofs.Laws.{cell-balance, entry-balance, queue-balance}
-use Rattle.ledger.specs.Account.{demanded, leftRoad}
+use Rattle.ledger.specs.Account.{rowAccount}
 
 -- what flows out of a position, as the entry's flow and the cells' flows
 at-each : (f : ℕ → ℕ) (p : ℕ) → atPosition (f 0) (λ i. f (suc i)) p ≡ f p
@@ -38,5 +38,5 @@ module _ (way : Sharing) (fair : Fair way) (c : Corridor) (demand : List ℕ) (t
       ∙ sum-of-sums (cellsOf c) (queueOf c) (onDemandAt demand)
 
   -- vehicles after and what left the road are the vehicles before and what was demanded
-  pub vehicles-balance : vehicles (corridorAfter way c demand) + leftRoad way c demand ≡ vehicles c + demanded c demand
+  pub vehicles-balance : vehicles (corridorAfter way c demand) + rowAccount way c demand .out ≡ vehicles c + rowAccount way c demand .brought
   vehicles-balance = omega (arith, entry-balance way fair c demand t s d, counts-balance, queues-balance)

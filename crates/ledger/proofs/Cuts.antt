@@ -16,10 +16,11 @@ use Rattle.period.specs.Sharing.{Sharing}
 use Rattle.recut.specs.Recut.{newCorridor, recutChecks}
 use Rattle.recut.proofs.Facts.{CutFits, cut-fits}
 use Rattle.recut_laws.proofs.Kept.{new-length, cut-keeps-vehicles, cut-keeps-each-queue, cut-keeps-the-ramps, new-state-is-accepted}
-use Rattle.ledger.specs.Calls.{recut, leaves, accepts, letsOut, acceptsAt, letsInAt}
-use Rattle.ledger.proofs.Sound.{Sound, nothing, CallIsSound}
+use Rattle.ledger.specs.Account.{nothing}
+use Rattle.ledger.specs.Calls.{recut, leaves, accountOf}
+use Rattle.ledger.proofs.Sound.{Sound, stays, CallIsSound}
 
-cut-is-sound : (old : Corridor) (pieces new : List ℕ) → CutFits old pieces new → Sound old (newCorridor old pieces new) 0 0 (λ _. 0) (λ _. 0)
+cut-is-sound : (old : Corridor) (pieces new : List ℕ) → CutFits old pieces new → Sound old (newCorridor old pieces new) nothing
 cut-is-sound old pieces new known =
     record {
       accepted =
@@ -32,9 +33,9 @@ cut-is-sound old pieces new known =
     }
 
 pub recut-is-sound : (way : Sharing) (pieces new list : List ℕ) → CallIsSound way (recut pieces new list)
-unfolding leaves accepts letsOut acceptsAt letsInAt
+unfolding leaves accountOf
 recut-is-sound way pieces new list c e = by (answer (recutChecks c pieces new list)) refl
   where
-    by : (a : Answer) → answer (recutChecks c pieces new list) ≡ a → Sound c (whenAccepted a (newCorridor c pieces new) c) 0 0 (λ _. 0) (λ _. 0)
-    by (Refused refusal) h = nothing c e
+    by : (a : Answer) → answer (recutChecks c pieces new list) ≡ a → Sound c (whenAccepted a (newCorridor c pieces new) c) nothing
+    by (Refused refusal) h = stays c e
     by Accepted h = cut-is-sound c pieces new (cut-fits c pieces new list h)

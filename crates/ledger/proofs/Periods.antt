@@ -5,7 +5,6 @@ use mathlib.Core.Bool.{Bool, true, false, false≢true}
 use mathlib.Core.List.{List}
 use native.Mathlib.Omega.{arith}
 use lib.Dec.{eqb}
-use Rattle.whole.specs.Sums.{sum}
 use Rattle.whole.specs.Search.{pick}
 use Rattle.whole.proofs.Sums.{sum-of-sums, sum-of-equal-terms}
 use Rattle.whole.proofs.Search.{is-first}
@@ -25,10 +24,10 @@ use Rattle.period.proofs.Laws.{queue-balance}
 use Rattle.period.proofs.Again.{t, s, d, state-stays-accepted}
 use Rattle.period.proofs.Rows.{same-length-fits}
 use Rattle.period_run.specs.Run.{rows, demandRow, isAccepted, corridorAfterPeriods, rowAnswer, completed, runChecks}
-use Rattle.ledger.specs.Account.{demanded, leftRoad, demandedAt, enteredAt}
-use Rattle.ledger.specs.Calls.{IsAccepted, period, run, leaves, accepts, letsOut, acceptsAt, letsInAt}
+use Rattle.ledger.specs.Account.{nothing, total, rowAccount}
+use Rattle.ledger.specs.Calls.{IsAccepted, period, run, leaves, accountOf}
 use Rattle.ledger.proofs.Balance.{vehicles-balance}
-use Rattle.ledger.proofs.Sound.{Sound, nothing, then, CallIsSound}
+use Rattle.ledger.proofs.Sound.{Sound, stays, then, CallIsSound}
 
 -- what balances at each cell balances over the cells of an on-ramp number
 ramp-balance : (table : List ℕ) (ramp : ℕ) (f g h k : ℕ → ℕ) → ((i : ℕ) → i < cells table → f i + g i ≡ h i + k i) → atOnRamp table ramp f + atOnRamp table ramp g ≡ atOnRamp table ramp h + atOnRamp table ramp k
@@ -50,7 +49,7 @@ numbers c e = accepted-passes _ _ e .1
 
 module _ (way : Sharing) (fair : Fair way) where
   -- one accepted demand row
-  row-is-sound : (c : Corridor) (demand : List ℕ) → IsAccepted c → answer (demandNumbers c demand) ≡ Accepted → Sound c (corridorAfter way c demand) (demanded c demand) (leftRoad way c demand) (λ ramp. demandedAt ramp c demand) (λ ramp. enteredAt ramp way c demand)
+  row-is-sound : (c : Corridor) (demand : List ℕ) → IsAccepted c → answer (demandNumbers c demand) ≡ Accepted → Sound c (corridorAfter way c demand) (rowAccount way c demand)
   row-is-sound c demand e row =
       let accepted = numbers c e in
       let fit-table = t way fair c demand accepted row in
@@ -67,11 +66,11 @@ module _ (way : Sharing) (fair : Fair way) where
       }
 
   pub period-is-sound : (demand sheet : List ℕ) → CallIsSound way (period demand sheet)
-  unfolding leaves accepts letsOut acceptsAt letsInAt
+  unfolding leaves accountOf
   period-is-sound demand sheet c e = by (answer (periodChecks c demand sheet)) refl
     where
-      by : (a : Answer) → answer (periodChecks c demand sheet) ≡ a → Sound c (whenAccepted a (corridorAfter way c demand) c) (whenAccepted a (demanded c demand) 0) (whenAccepted a (leftRoad way c demand) 0) (λ ramp. whenAccepted a (demandedAt ramp c demand) 0) (λ ramp. whenAccepted a (enteredAt ramp way c demand) 0)
-      by (Refused refusal) h = nothing c e
+      by : (a : Answer) → answer (periodChecks c demand sheet) ≡ a → Sound c (whenAccepted a (corridorAfter way c demand) c) (whenAccepted a (rowAccount way c demand) nothing)
+      by (Refused refusal) h = stays c e
       by Accepted h = row-is-sound c demand e (accepted-both (stateNumbers c) (demandNumbers c demand) (accepted-passes _ _ h .1) .1)
 
   accepted-is : (a : Answer) → isAccepted a ≡ true → a ≡ Accepted
@@ -86,9 +85,9 @@ module _ (way : Sharing) (fair : Fair way) where
     abbrev row : ℕ → List ℕ
     row = demandRow (cellsOf c) demand
 
-    rows-are-sound : (k : ℕ) → k ≤ completed way c demand → Sound c (after k) (sum k (λ i. demanded (after i) (row i))) (sum k (λ i. leftRoad way (after i) (row i))) (λ ramp. sum k (λ i. demandedAt ramp (after i) (row i))) (λ ramp. sum k (λ i. enteredAt ramp way (after i) (row i)))
-    unfolding corridorAfterPeriods
-    rows-are-sound zero h = nothing c e
+    rows-are-sound : (k : ℕ) → k ≤ completed way c demand → Sound c (after k) (total k (λ i. rowAccount way (after i) (row i)))
+    unfolding corridorAfterPeriods total
+    rows-are-sound zero h = stays c e
     rows-are-sound (suc k) h =
         let before = rows-are-sound k (omega arith) in
         then before
@@ -96,7 +95,7 @@ module _ (way : Sharing) (fair : Fair way) where
         (accepted-is (rowAnswer way c demand k) (is-first (rows (cellsOf c) demand) (λ i. isAccepted (rowAnswer way c demand i)) .before k h)))
 
   pub run-is-sound : (demand sheet : List ℕ) → CallIsSound way (run demand sheet)
-  unfolding leaves accepts letsOut acceptsAt letsInAt
+  unfolding leaves accountOf
   run-is-sound demand sheet c e = rows-are-sound c demand e _ (by (answer (runChecks c demand sheet)))
     where
       by : (a : Answer) → whenAccepted a (completed way c demand) 0 ≤ completed way c demand

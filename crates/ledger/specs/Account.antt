@@ -1,5 +1,5 @@
--- Demand 3: the account of a period: what its demand row brings, and what it lets out.
-use Prim.Native.Nat.{ℕ, _+_}
+-- Demand 3: an account: what accepted demand brings, and what leaves.
+use Prim.Native.Nat.{ℕ, zero, suc, _+_}
 use mathlib.Core.List.{List}
 use Rattle.whole.specs.Sums.{sum}
 use Rattle.layout.specs.Layout.{entryDemand, onDemandAt}
@@ -8,17 +8,38 @@ use Rattle.accept_rows.specs.Vehicles.{atOnRamp}
 use Rattle.period.specs.Sharing.{Sharing}
 use Rattle.period.specs.Period.{flowAt, offFlowAt, onFlowAt}
 
--- the demand at the entry and the on-ramps
-abbrev pub demanded : Corridor → List ℕ → ℕ
-demanded c demand = entryDemand demand + sum (cellsOf c) (onDemandAt demand)
+-- what is brought by accepted demand and what leaves the road, in all; and of each on-ramp number, what is brought there and what goes in
+pub record Account : Type 0 where
+  pub brought : ℕ
+  pub out : ℕ
+  pub broughtAt : ℕ → ℕ
+  pub inAt : ℕ → ℕ
 
--- the off-ramp flows and the last cell's flow
-abbrev pub leftRoad : Sharing → Corridor → List ℕ → ℕ
-leftRoad way c demand = sum (cellsOf c) (offFlowAt way c demand) + flowAt way c demand (cellsOf c)
+abbrev pub nothing : Account
+nothing = record { brought = 0; out = 0; broughtAt = λ ramp. 0; inAt = λ ramp. 0 }
 
--- the demand at an on-ramp number, and the flow from there
-abbrev pub demandedAt : ℕ → Corridor → List ℕ → ℕ
-demandedAt ramp c demand = atOnRamp (c .table) ramp (onDemandAt demand)
+-- one account and then another
+abbrev pub both : Account → Account → Account
+both a b =
+    record {
+      brought = a .brought + b .brought;
+      out = a .out + b .out;
+      broughtAt = λ ramp. a .broughtAt ramp + b .broughtAt ramp;
+      inAt = λ ramp. a .inAt ramp + b .inAt ramp;
+    }
 
-abbrev pub enteredAt : ℕ → Sharing → Corridor → List ℕ → ℕ
-enteredAt ramp way c demand = atOnRamp (c .table) ramp (onFlowAt way c demand)
+-- the first k of a row of accounts
+unfoldable pub total : ℕ → (ℕ → Account) → Account
+total zero each = nothing
+total (suc k) each = both (total k each) (each k)
+
+-- of an accepted demand row: the demand at the entry and the on-ramps; the off-ramp flows and the last cell's flow; and of an on-ramp number the
+-- demand there and the flow from there
+abbrev pub rowAccount : Sharing → Corridor → List ℕ → Account
+rowAccount way c demand =
+    record {
+      brought = entryDemand demand + sum (cellsOf c) (onDemandAt demand);
+      out = sum (cellsOf c) (offFlowAt way c demand) + flowAt way c demand (cellsOf c);
+      broughtAt = λ ramp. atOnRamp (c .table) ramp (onDemandAt demand);
+      inAt = λ ramp. atOnRamp (c .table) ramp (onFlowAt way c demand);
+    }

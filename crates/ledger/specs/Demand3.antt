@@ -8,7 +8,7 @@ use Rattle.layout.specs.Corridor.{Corridor, cellsOf, rowOf, entryQueueOf, count
 use Rattle.accept_ranges.specs.Ranges.{withRamp, queueLimit}
 use Rattle.accept_rows.specs.Vehicles.{vehicles}
 use Rattle.period.specs.Sharing.{Sharing}
-use Rattle.ledger.specs.Calls.{Call, IsAccepted, leavesAll, over, accepts, letsOut, acceptsAt, letsInAt, queueOfRamp, rampsOf}
+use Rattle.ledger.specs.Calls.{Call, IsAccepted, leavesAll, accountOfAll, queueOfRamp, rampsOf}
 
 pub record Demand3 (way : Sharing) (start : Corridor) (calls : List Call) : Type 0 where
   -- The table and the state are accepted again.
@@ -21,8 +21,8 @@ pub record Demand3 (way : Sharing) (start : Corridor) (calls : List Call) : Type
   -- A ramp number that stands at two positions along the road is 0, no ramp.
   pub rampsOnce : (j k : ℕ) → j < k → k < rampPositions (cellsOf (leavesAll way calls start)) → rampAt (leavesAll way calls start .table) j ≡ rampAt (leavesAll way calls start .table) k → rampAt (leavesAll way calls start .table) k ≡ 0
   -- Vehicles in cells and queues, with all that left by off-ramps and the last cell, are those at the start with all accepted demand.
-  pub balance : vehicles (leavesAll way calls start) + over way (letsOut way) calls start ≡ vehicles start + over way (accepts way) calls start
+  pub balance : vehicles (leavesAll way calls start) + accountOfAll way calls start .out ≡ vehicles start + accountOfAll way calls start .brought
   -- Each on-ramp's queue, with all its flows, is its own at the start with all its accepted demand.
-  pub queues : (ramp : ℕ) → queueOfRamp ramp (leavesAll way calls start) + over way (letsInAt way ramp) calls start ≡ queueOfRamp ramp start + over way (acceptsAt way ramp) calls start
+  pub queues : (ramp : ℕ) → queueOfRamp ramp (leavesAll way calls start) + accountOfAll way calls start .inAt ramp ≡ queueOfRamp ramp start + accountOfAll way calls start .broughtAt ramp
   -- The ramp numbers along the road are the same list, in the same order.
   pub sameRamps : rampsOf (leavesAll way calls start) ≡ rampsOf start
