@@ -8,7 +8,7 @@ ghost use Rattle.layout.specs.Layout.{WIDTH, Listed, MOST, cells, tableL
 
 pub mod sheet;
 
-// One row of a cell table, in document 01's order of columns.
+// One row of a cell table, in the rules' order of columns.
 pub struct Row {
     pub v: u32,
     pub w: u32,
