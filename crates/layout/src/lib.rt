@@ -113,7 +113,7 @@ pub fn ramp_positions(n: usize) -> usize
     requires { ⌜ Listed n ⌝ }
     ensures { λ r. ⌜ r ≡ rampPositions n ⌝ }
 {
-    2 * n
+    n * 2
 }
 
 // The index of the cell of a ramp position.
