@@ -205,10 +205,11 @@ CASES = [
 
 README = """# Cases of the run program
 
-A folder for each case: `cells.csv`, `state.csv` and `demand.csv`, one of them left out where the case is a missing file, or a folder
-where it is a file that can't be read, and `sheet.csv`, what the program must write, byte for byte. `.ci/cases` runs the proved program on each. `make.py` makes the folders
-and this table: its expected lines were worked out by hand from the rules (but for `morning` and `cells_512`), and the sheets are
-the output of the independent implementation in `peer/simulate`, which has to have those lines.
+A folder for each case: `cells.csv`, `state.csv` and `demand.csv`, one of them left out where the case is a missing file, or a
+folder where it is a file that can't be read, and `sheet.csv`, what the program must write, byte for byte. `.ci/cases` runs the
+proved program on each. `make.py` makes the folders and this table: its expected lines were worked out by hand from the rules (but
+for `morning` and `cells_512`), and the sheets are the output of the independent implementation in `peer/simulate`, which has to
+have those lines.
 
 No road has a record of 16,384 bytes that is accepted: 512 cells have 1,025 fields, at most 11,274 bytes. The case of that length
 is refused for its number of fields.
