@@ -1,19 +1,35 @@
-/* Runs a corridor through the library an hour at a time, shows what is on the road, and then two refusals.
+/* Runs a corridor through the library, part after part of its demand, shows what is on the road, and then two refusals.
 
        cc examples/corridor.c -Iinclude target/staticlib/libfigwimple.a -o corridor
-       ./corridor examples/i210w */
+       ./corridor examples/i210w
+
+   The folder has cells.csv, state.csv and demand.csv as docs/RULES.md, "The text and the program", lays them down. The status is 0
+   where the whole corridor was accepted, and 1 where a file was not, or could not be read. */
 
 #include "figwimple.h"
 
+#include <inttypes.h>
+#include <stdbool.h>
 #include <stdio.h>
 #include <stdlib.h>
 
-#define HOUR 360 /* periods of 10 seconds */
+#define CELLS 512 /* the most that the library takes */
+#define PART 360  /* demand rows for one call: an hour, where a period is 10 seconds; the library takes up to 4,096 */
+
+/* How long the library's lists are for so many cells. */
+#define TABLE_LENGTH(cells) (9 * (cells))
+#define STATE_LENGTH(cells) (2 * (cells) + 1)
+#define DEMAND_LENGTH(cells) (2 * (cells) + 1)
+#define SHEET_LENGTH(cells) (4 * (cells) + 1)
+
+/* The table has room for one cell more, so that a table that is too long comes to the library and is refused there. */
+static uint32_t table[TABLE_LENGTH(CELLS + 1)], state[STATE_LENGTH(CELLS)];
+static uint32_t demand[PART * DEMAND_LENGTH(CELLS)], sheet[SHEET_LENGTH(CELLS)];
 
 /* What each number of a refusal says. */
 static const char *const WRONG[] = {
     "accepted",
-    "a list has the wrong length",
+    "a list has the wrong length, or the table has not 1 to 512 cells",
     "a table number is outside its range",
     "w + x is over 65,536",
     "a ramp number is used again",
@@ -26,96 +42,157 @@ static const char *const WRONG[] = {
     "a row value is not at least 1 and at most its limit",
 };
 
-struct list {
-    uint32_t *numbers;
-    size_t length;
-};
-
 static void say(const char *what, uint64_t word)
 {
     if (word == 0)
         printf("%s: accepted\n", what);
     else
-        printf("%s: refused with number %u at place %u: %s\n", what, figwimple_number(word), figwimple_place(word),
-               WRONG[figwimple_number(word)]);
+        printf("%s: refused with number %" PRIu32 " at place %" PRIu32 ": %s\n", what, figwimple_number(word),
+               figwimple_place(word), WRONG[figwimple_number(word)]);
 }
 
-static struct list zeros(size_t length)
-{
-    struct list list = {calloc(length, sizeof *list.numbers), length};
-    if (list.numbers == NULL)
-        exit(1);
-    return list;
-}
-
-/* Every number of a comma-separated file, record after record. */
-static struct list read_numbers(const char *folder, const char *name)
-{
+/* A file that is read record after record. */
+struct text {
     char path[4096];
-    unsigned long number;
-    size_t room = 1024;
-    struct list list = zeros(room);
-    snprintf(path, sizeof path, "%s/%s", folder, name);
-    FILE *file = fopen(path, "r");
-    if (file == NULL) {
-        perror(path);
-        exit(1);
-    }
-    list.length = 0;
-    while (fscanf(file, "%lu%*[,\r\n]", &number) == 1) {
-        if (list.length == room) {
-            room *= 2;
-            list.numbers = realloc(list.numbers, room * sizeof *list.numbers);
-            if (list.numbers == NULL)
-                exit(1);
-        }
-        list.numbers[list.length++] = (uint32_t)number;
-    }
-    fclose(file);
-    return list;
+    FILE *file;
+    uint64_t record; /* the one that is being read, from 1 */
+};
+
+/* Ends the program where a record is not as the rules ask. */
+static void must(bool right, const struct text *text, const char *wrong)
+{
+    if (right)
+        return;
+    fprintf(stderr, "%s: record %" PRIu64 " %s\n", text->path, text->record, wrong);
+    exit(1);
 }
 
-/* One line on a state and the sheet of the period before it: vehicles are kept in thousandths. */
-static void show(int hour, size_t cells, struct list state, struct list sheet)
+static void open_text(struct text *text, const char *folder, const char *name)
 {
-    uint64_t road = 0, queues = state.numbers[0], congested = 0;
-    for (size_t i = 0; i < cells; i++) {
-        road += state.numbers[1 + i];
-        queues += state.numbers[1 + cells + i];
-        congested += sheet.numbers[1 + 3 * cells + i];
+    int length = snprintf(text->path, sizeof text->path, "%s/%s", folder, name);
+    if (length < 0 || (size_t)length >= sizeof text->path) {
+        fprintf(stderr, "%s: the folder's name is too long\n", folder);
+        exit(1);
     }
-    printf("after hour %d: %llu vehicles on the road, %llu in queues, %llu of %zu cells congested\n", hour,
-           (unsigned long long)(road / 1000), (unsigned long long)(queues / 1000), (unsigned long long)congested, cells);
+    text->record = 0;
+    text->file = fopen(text->path, "rb");
+    if (text->file == NULL) {
+        perror(text->path);
+        exit(1);
+    }
+}
+
+/* The next byte, or EOF. A file that can't be read to its end, such as a folder, must not pass for a short one. */
+static int next_byte(const struct text *text)
+{
+    int byte = getc(text->file);
+    if (byte == EOF && ferror(text->file)) {
+        perror(text->path);
+        exit(1);
+    }
+    return byte;
+}
+
+/* Reads the next record, which must have so many fields, and answers whether there was one. What scanf would take as well (a sign,
+   a space, a leading zero, a number too large, a record with a field too few) is a slip in the file, and ends the program. A
+   record may have 16,384 bytes; one of the right fields has fewer. */
+static bool read_record(struct text *text, uint32_t *numbers, size_t fields)
+{
+    int byte = next_byte(text);
+    text->record++;
+    if (byte == EOF)
+        return false;
+    for (size_t field = 0; field < fields; field++) {
+        uint64_t number = 0;
+        int digits = 0;
+        for (; byte >= '0' && byte <= '9'; byte = next_byte(text)) {
+            must(digits != 1 || number != 0, text, "has a number with a leading zero");
+            must(++digits <= 10, text, "has a number of more than 10 digits");
+            number = 10 * number + (uint64_t)(byte - '0');
+        }
+        must(digits > 0, text, "has no digit where a number starts");
+        must(number <= UINT32_MAX, text, "has a number over 4,294,967,295");
+        numbers[field] = (uint32_t)number;
+        if (field + 1 < fields) {
+            must(byte == ',', text, "has too few fields, or no comma after a number");
+            byte = next_byte(text);
+        }
+    }
+    /* The last end may be missing. */
+    must(byte == EOF || (byte == '\r' && next_byte(text) == '\n'), text, "has too many fields, or does not end in CR LF");
+    return true;
+}
+
+/* One line on the state after so many periods and on the last one's sheet: vehicles are kept in thousandths. */
+static void show(uint64_t periods, size_t cells)
+{
+    uint64_t road = 0, queues = state[0], congested = 0;
+    for (size_t i = 0; i < cells; i++) {
+        road += state[1 + i];
+        queues += state[1 + cells + i];
+        congested += sheet[1 + 3 * cells + i];
+    }
+    printf("after period %" PRIu64 ": %.3f vehicles on the road, %.3f in queues, %" PRIu64 " of %zu cells congested\n", periods,
+           (double)road / 1000, (double)queues / 1000, congested, cells);
 }
 
 int main(int count, char **words)
 {
     const char *folder = count > 1 ? words[1] : "examples/i210w";
-    struct list table = read_numbers(folder, "cells.csv");
-    struct list state = read_numbers(folder, "state.csv");
-    struct list demand = read_numbers(folder, "demand.csv");
-    size_t cells = table.length / 9, width = 2 * cells + 1;
-    struct list sheet = zeros(4 * cells + 1);
-    uint32_t periods = 0;
+    struct text text;
+    size_t cells = 0, rows = 0;
 
-    uint64_t word = figwimple_accept_state(table.numbers, table.length, state.numbers, state.length);
-    say("table and state", word);
-    for (int hour = 1; word == 0 && hour * HOUR * width <= demand.length; hour++) {
-        word = figwimple_run(table.numbers, table.length, state.numbers, state.length, demand.numbers + (hour - 1) * HOUR * width,
-                             HOUR * width, sheet.numbers, sheet.length, &periods, 1);
-        if (word == 0)
-            show(hour, cells, state, sheet);
+    /* Of a table that is too long, all is read and one cell too many is kept. */
+    open_text(&text, folder, "cells.csv");
+    while (read_record(&text, table + TABLE_LENGTH(cells <= CELLS ? cells : CELLS), TABLE_LENGTH(1)))
+        cells += cells <= CELLS;
+    fclose(text.file);
+    size_t table_length = TABLE_LENGTH(cells);
+    uint64_t word = figwimple_accept_table(table, table_length);
+    if (figwimple_number(word) == 1) { /* without a number of cells the other files have no lengths */
+        say("the table", word);
+        return 1;
     }
-    say("the morning", word);
+    size_t state_length = STATE_LENGTH(cells), demand_length = DEMAND_LENGTH(cells), sheet_length = SHEET_LENGTH(cells);
 
-    /* The entry demand of row 101 is one more than its limit: the 100 rows before it are done. */
-    demand.numbers[100 * width] = 1000001;
-    word = figwimple_run(table.numbers, table.length, state.numbers, state.length, demand.numbers, HOUR * width, sheet.numbers,
-                         sheet.length, &periods, 1);
-    say("an hour with a demand out of range", word);
-    printf("periods completed: %u\n", periods);
+    open_text(&text, folder, "state.csv");
+    must(read_record(&text, state, state_length), &text, "is missing");
+    text.record++;
+    must(next_byte(&text) == EOF, &text, "is one too many");
+    fclose(text.file);
+    word = figwimple_accept_state(table, table_length, state, state_length);
+    say("table and state", word);
+    if (word != 0)
+        return 1;
 
-    table.numbers[9 * 2] = 65537;
-    say("a table with v out of range in cell 3", figwimple_accept_table(table.numbers, table.length));
+    /* A run that is refused at a row has done the periods before it: `completed` says how many. */
+    uint64_t periods = 0;
+    uint32_t completed = 0;
+    open_text(&text, folder, "demand.csv");
+    while (word == 0 && read_record(&text, demand, demand_length)) {
+        for (rows = 1; rows < PART && read_record(&text, demand + rows * demand_length, demand_length);)
+            rows++;
+        word = figwimple_run(table, table_length, state, state_length, demand, rows * demand_length, sheet, sheet_length,
+                             &completed, 1);
+        periods += completed;
+        if (completed > 0)
+            show(periods, cells);
+    }
+    fclose(text.file);
+    say("the demand", word);
+    printf("periods completed: %" PRIu64 "\n", periods);
+    if (word != 0)
+        return 1;
+
+    /* The last part again, its last row with one more at the entry than a demand may be. */
+    if (rows > 0) {
+        demand[(rows - 1) * demand_length] = 1000001;
+        word = figwimple_run(table, table_length, state, state_length, demand, rows * demand_length, sheet, sheet_length,
+                             &completed, 1);
+        say("the last part again, with a demand out of range in its last row", word);
+        printf("periods completed: %" PRIu32 " of %zu\n", completed, rows);
+    }
+    table[TABLE_LENGTH(cells - 1)] = 65537;
+    say("the table with v out of range in the last cell", figwimple_accept_table(table, table_length));
     return 0;
 }

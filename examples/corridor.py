@@ -1,14 +1,63 @@
-"""Runs the morning of examples/i210w through the shared library: python3 examples/corridor.py ./libfigwimple.so"""
-import ctypes, pathlib, sys
+"""Runs a corridor through the shared library, part after part of its demand: python3 examples/corridor.py ./libfigwimple.so [FOLDER]
 
-def numbers(name):
-    found = [int(n) for n in (pathlib.Path(__file__).parent / "i210w" / name).read_text().replace("\n", ",").split(",") if n]
-    return (ctypes.c_uint32 * len(found))(*found)
+The folder, examples/i210w if none is given, has cells.csv, state.csv and demand.csv as docs/RULES.md, "The text and the program", lays
+them down. The status is 0 where the whole corridor was accepted, and 1 where a file was not, or could not be read."""
+import ctypes, pathlib, re, sys
 
-table, state, demand = numbers("cells.csv"), numbers("state.csv"), numbers("demand.csv")
-sheet, periods = (ctypes.c_uint32 * (4 * (len(table) // 9) + 1))(), (ctypes.c_uint32 * 1)()
-run = ctypes.CDLL(sys.argv[1]).figwimple_run
-run.restype, run.argtypes = ctypes.c_uint64, [ctypes.POINTER(ctypes.c_uint32), ctypes.c_size_t] * 5
-word = run(*[part for lent in (table, state, demand, sheet, periods) for part in (lent, len(lent))])
-print("accepted" if word == 0 else f"refused with number {word >> 32} at place {word & 0xffffffff}")
-print(f"{periods[0]} periods; {sum(state)} thousandths of a vehicle on the road and in queues")
+PART = 360  # demand rows for one call; the library takes up to 4,096
+if len(sys.argv) not in (2, 3):
+    sys.exit(__doc__)
+folder = pathlib.Path(sys.argv[2]) if len(sys.argv) == 3 else pathlib.Path(__file__).parent / "i210w"
+
+def read(name, fields):
+    """The numbers of each record. What int() would take as well, such as a sign, a space or a leading zero, is a slip in the file."""
+    try:
+        records = (folder / name).read_bytes().split(b"\r\n")
+    except OSError as error:
+        sys.exit(str(error))
+    if not records[-1]:
+        records.pop()  # the last record has its end
+    for place, record in enumerate(records, 1):
+        numbers = record.split(b",")
+        if len(numbers) != fields or not all(re.fullmatch(rb"0|[1-9][0-9]{0,9}", n) and int(n) < 2**32 for n in numbers):
+            sys.exit(f"{folder / name}: record {place} is not {fields} whole numbers with commas between them and CR LF at the end")
+        records[place - 1] = [int(n) for n in numbers]
+    return records
+
+def lend(records):
+    numbers = [number for record in records for number in record]
+    return (ctypes.c_uint32 * len(numbers))(*numbers)
+
+def call(name, *lists):
+    """The word that a function answers; each list is passed as its pointer and its length."""
+    function = getattr(library, name)
+    function.restype, function.argtypes = ctypes.c_uint64, [ctypes.POINTER(ctypes.c_uint32), ctypes.c_size_t] * len(lists)
+    return function(*[part for lent in lists for part in (lent, len(lent))])
+
+def say(what, word):
+    print(f"{what}: " + ("accepted" if word == 0 else f"refused with number {word >> 32} at place {word & 0xffffffff}"))
+
+library = ctypes.CDLL(sys.argv[1])
+rows = read("cells.csv", 9)
+state_length, demand_length, sheet_length = 2 * len(rows) + 1, 2 * len(rows) + 1, 4 * len(rows) + 1
+table = lend(rows)
+word = call("figwimple_accept_table", table)
+if word >> 32 != 1:  # without a number of cells the other files have no lengths
+    states = read("state.csv", state_length)
+    if len(states) != 1:
+        sys.exit(f"{folder / 'state.csv'}: " + ("record 2 is one too many" if states else "record 1 is missing"))
+    state = lend(states)
+    word = call("figwimple_accept_state", table, state)
+say("table and state", word)
+if word != 0:
+    sys.exit(1)
+
+rows, sheet, periods, done = read("demand.csv", demand_length), lend([[0] * sheet_length]), lend([[0]]), 0
+for start in range(0, len(rows), PART):
+    word = call("figwimple_run", table, state, lend(rows[start:start + PART]), sheet, periods)
+    done += periods[0]  # a run that is refused at a row has done the periods before it
+    if word != 0:
+        break
+say("the demand", word)
+print(f"{done} periods; {sum(state)} thousandths of a vehicle on the road and in queues")
+sys.exit(0 if word == 0 else 1)

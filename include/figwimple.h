@@ -27,7 +27,7 @@
       11  a row value is not at least 1 and at most its limit                                    1 to 4 for v, w, F, J
 
    The lowest number that applies is given, at its smallest place; in a re-cut, of one number, the old table's come before the
-   new one's. A refusal leaves every list as it came, but for a run that was refused at a later row.
+   new one's. A refusal leaves every list as it came, but for a run's count of periods, and for a run refused at a later row.
 
    LISTS. A list is a pointer and its length in elements. With N cells:
 
@@ -38,7 +38,8 @@
 
    What the proofs do not say, the caller sees to: a pointer is not null and aligned, also where the length is 0; that many elements
    stand behind it; a list that a function writes overlaps no other list of the call, and no other thread uses it meanwhile. A
-   function keeps no pointer, takes no memory, and uses some 65 KiB of stack, the marks of the ramp numbers. */
+   function keeps no pointer, takes no memory, and uses little stack: some 8 KiB for the marks of the ramp numbers, one bit for each of
+   65,536, and a run 4 KiB more, for the limits of a demand row. */
 
 #ifndef FIGWIMPLE_H
 #define FIGWIMPLE_H

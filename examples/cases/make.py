@@ -3,7 +3,7 @@
 
     python3 make.py ../../peer/target/release/simulate
 
-Each case names what it shows, its three texts (None: no such file) and the lines expected after the header, which were
+Each case names what it shows, its three texts (None: no such file; FOLDER: a folder of that name) and the lines expected after the header, which were
 worked out by hand from the rules. The program named as the argument, the independent implementation in plain Rust, is run
 on each folder, and its output becomes sheet.csv, provided that it is the expected lines. Two sheets are too long to be
 worked out by hand, those with LONG: of one the last line alone is compared, of the other none."""
@@ -16,6 +16,7 @@ HERE = pathlib.Path(__file__).resolve().parent
 END = "\r\n"
 HEADER = "k,i,n,f,s,r,mode"
 LONG = ["..."]
+FOLDER = object()
 
 
 def text(*records):
@@ -76,6 +77,15 @@ def morning():
     return text(*rows), text("0" + ",6000" * 12 + ",0" * 12), text(*demand)
 
 
+def long_demand():
+    """Twenty full cells, each with the longest demand at its on-ramp: 65,772 bytes in 324 records, more than the program reads at once.
+    Its first read ends within the last record but one."""
+    row = ",".join(["0"] + ["1000000"] * 20 + ["0"] * 20)
+    cells = text(*[f"1,1,1,1,{cell},1,1,0,0" for cell in range(1, 21)])
+    lines = [f"{k},{cell},{min(cell, 1)},0,0,0,{int(0 < cell < 20)}" for k in range(1, 325) for cell in range(21)]
+    return cells, text("0" + ",1" * 20 + ",0" * 20), text(*[row] * 324), lines
+
+
 CASES = [
     ("printed_period", "the period that the rules print", CELLS, STATE, DEMAND, ONE),
     ("two_periods", "a second period starts from what the first left", CELLS, STATE, text(FIRST, NONE), ONE + TWO),
@@ -106,6 +116,7 @@ CASES = [
     ("morning", "400 periods: queues as far as the entry and an on-ramp, and all of it clears", *morning(), LONG),
 
     ("cells_missing", "a missing file is 12 at place 0", None, STATE, DEMAND, stop(0, 0, 12, 1)),
+    ("cells_a_folder", "a file that can't be read is 12 at place 0", FOLDER, STATE, DEMAND, stop(0, 0, 12, 1)),
     ("cells_empty", "no record: 1 on N, before the missing state", "", None, None, stop(0, 0, 1)),
     ("cells_513", "513 records: 1 on N, before the state's 12", text(*[SMALL] * 513), "x", DEMAND, stop(0, 0, 1)),
     ("cells_broken_514", "the cells are read to their end: 12 at a record that is one too many",
@@ -118,6 +129,7 @@ CASES = [
     ("cells_bare_cr", "CR at the end of the file is half an end", CELLS[:-1], STATE, DEMAND, stop(0, 2, 12, 1)),
 
     ("state_missing", "a missing file is 12 at place 0", CELLS, None, DEMAND, stop(0, 0, 12, 2)),
+    ("state_a_folder", "a file that can't be read is 12 at place 0", CELLS, FOLDER, DEMAND, stop(0, 0, 12, 2)),
     ("state_empty", "the one record is missing: the record it would be", CELLS, "", DEMAND, stop(0, 1, 12, 2)),
     ("state_sign", "a broken record", CELLS, text("+500,8000,4000,0,0"), DEMAND, stop(0, 1, 12, 2)),
     ("state_short", "a wrong number of fields", CELLS, text("500,8000,4000,0"), DEMAND, stop(0, 1, 12, 2)),
@@ -148,6 +160,9 @@ CASES = [
      text("500,8000,4000,1,0"), None, stop(0, 1, 5)),
 
     ("demand_missing", "a missing file is 12 at place 0, in period 0", CELLS, STATE, None, stop(0, 0, 12, 3)),
+    ("demand_a_folder", "a demand that can't be read: 12 at place 0, with the period that was tried", CELLS, STATE, FOLDER,
+     stop(1, 0, 12, 3)),
+    ("demand_longer_than_a_read", "a record that one read begins and the next ends", *long_demand()),
     ("demand_broken_third", "12 after two periods", CELLS, STATE, text(FIRST, NONE, "0,0,0,0,x"),
      ONE + TWO + stop(3, 3, 12, 3)),
     ("demand_first_record", "12 in the first period", CELLS, STATE, text("k", FIRST), stop(1, 1, 12, 3)),
@@ -190,10 +205,11 @@ CASES = [
 
 README = """# Cases of the run program
 
-A folder for each case: `cells.csv`, `state.csv` and `demand.csv`, one of them left out where the case is a missing file, and
-`sheet.csv`, what the program must write, byte for byte. `.ci/cases` runs the proved program on each. `make.py` makes the folders
-and this table: its expected lines were worked out by hand from the rules (but for `morning` and `cells_512`), and the sheets are
-the output of the independent implementation in `peer/simulate`, which has to have those lines.
+A folder for each case: `cells.csv`, `state.csv` and `demand.csv`, one of them left out where the case is a missing file, or a
+folder where it is a file that can't be read, and `sheet.csv`, what the program must write, byte for byte. `.ci/cases` runs the
+proved program on each. `make.py` makes the folders and this table: its expected lines were worked out by hand from the rules (but
+for `morning` and `cells_512`), and the sheets are the output of the independent implementation in `peer/simulate`, which has to
+have those lines.
 
 No road has a record of 16,384 bytes that is accepted: 512 cells have 1,025 fields, at most 11,274 bytes. The case of that length
 is refused for its number of fields.
@@ -210,9 +226,13 @@ def main():
         folder = HERE / name
         folder.mkdir(exist_ok=True)
         for file, content in zip(("cells.csv", "state.csv", "demand.csv"), texts):
-            (folder / file).unlink(missing_ok=True)
-            if content is not None:
-                (folder / file).write_bytes(content.encode())
+            if content is FOLDER:
+                (folder / file).mkdir(exist_ok=True)
+                (folder / file / "kept").write_bytes(b"")
+            else:
+                (folder / file).unlink(missing_ok=True)
+                if content is not None:
+                    (folder / file).write_bytes(content.encode())
         sheet = subprocess.run([peer], cwd=folder, stdout=subprocess.PIPE, check=True).stdout
         wrote = sheet.decode().split(END)
         if lines[:1] == LONG:

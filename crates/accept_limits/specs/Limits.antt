@@ -1,4 +1,4 @@
--- Document 01, "Refusal numbers" 6: the most that each number of a demand row may be, in the row's own order.
+-- Rules, "Refusal numbers" 6: the most that each number of a demand row may be, in the row's own order.
 use Prim.Native.Nat.{ℕ}
 use mathlib.Core.List.{List}
 use Rattle.layout.specs.declared.Row.{Row}

@@ -1,4 +1,4 @@
--- Document 01, "Units and the cell row" and "Refusal numbers" 2, 3 and 5 to 7: the ranges of the numbers of one cell.
+-- Rules, "Units and the cell row" and "Refusal numbers" 2, 3 and 5 to 7: the ranges of the numbers of one cell.
 use Prim.Native.Nat.{ℕ, _+_}
 use mathlib.Core.Bool.{Bool, _&&_}
 use lib.Dec.{leb, eqb}

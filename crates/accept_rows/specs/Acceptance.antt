@@ -1,4 +1,4 @@
--- Document 01, "Units and the cell row" and "Refusal numbers" 1 to 7: what is asked of a state and a demand row. What is asked of a table
+-- Rules, "Units and the cell row" and "Refusal numbers" 1 to 7: what is asked of a state and a demand row. What is asked of a table
 -- stands in `accept_tables`.
 use Prim.Native.Nat.{ℕ, _+_}
 use mathlib.Core.Bool.{Bool, _&&_}

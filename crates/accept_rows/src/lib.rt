@@ -1,4 +1,4 @@
-// What is refused of a state under a table, and of a demand row under both, by document 01's numbers 1 to 7. Number 1 asks of all the lists
+// What is refused of a state under a table, and of a demand row under both, by the rules' numbers 1 to 7. Number 1 asks of all the lists
 // at once; numbers 2 to 4 are the table's own.
 ghost use mathlib.Core.Path.{_≡_};
 ghost use mathlib.Core.Bool.{true};

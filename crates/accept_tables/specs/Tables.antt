@@ -1,4 +1,4 @@
--- Document 01, "Units and the cell row" and "Refusal numbers" 1 to 4: what is asked of a table, and of two.
+-- Rules, "Units and the cell row" and "Refusal numbers" 1 to 4: what is asked of a table, and of two.
 use Prim.Native.Nat.{ℕ, _+_}
 use mathlib.Core.Bool.{Bool, not, _&&_, _||_}
 use mathlib.Core.List.{List, [], _∷_}

@@ -1,4 +1,4 @@
-// The checks of document 01's numbers 2 to 4. Each answers the least place that fails its test, counted from 0, or how many places there are
+// The checks of the rules' numbers 2 to 4. Each answers the least place that fails its test, counted from 0, or how many places there are
 // where none fails.
 ghost use mathlib.Core.Path.{_≡_};
 ghost use Prim.Native.Nat.{ℕ, _/_, _%_, _^_, _<_};

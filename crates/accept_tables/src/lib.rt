@@ -1,4 +1,4 @@
-// What is refused of a table, by document 01's numbers 1 to 4: of one table, and of two, where each number of the first comes before the
+// What is refused of a table, by the rules' numbers 1 to 4: of one table, and of two, where each number of the first comes before the
 // second's.
 ghost use mathlib.Core.Path.{_≡_};
 ghost use mathlib.Core.List.{[], _∷_};

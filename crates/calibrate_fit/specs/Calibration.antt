@@ -1,4 +1,4 @@
--- Document 01, "Refusal numbers" 1, 9, 10 and 11: what is asked of samples, settings, a fit and a calibration, and what is answered.
+-- Rules, "Refusal numbers" 1, 9, 10 and 11: what is asked of samples, settings, a fit and a calibration, and what is answered.
 use Prim.Native.Nat.{_+_}
 use mathlib.Core.Bool.{Bool, _&&_}
 use mathlib.Core.List.{List, [], _∷_, _++_}

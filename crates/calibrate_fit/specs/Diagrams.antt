@@ -1,4 +1,4 @@
--- Document 01, "Calibration": the five doubles of the diagram.
+-- Rules, "Calibration": the five doubles of the diagram.
 use mathlib.Core.Bool.{Bool, true, false, not, _&&_}
 use mathlib.Core.List.{List, [], _∷_, foldl}
 use lib.Ieee.{Float, lt}

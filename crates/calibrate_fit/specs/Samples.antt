@@ -1,4 +1,4 @@
--- Document 01, "Calibration": the settings g and lanes, and how a sample is read.
+-- Rules, "Calibration": the settings g and lanes, and how a sample is read.
 use Prim.Native.Nat.{ℕ, _-_}
 use mathlib.Core.Bool.{Bool, true, false}
 use mathlib.Core.List.{List}

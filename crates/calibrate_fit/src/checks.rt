@@ -1,4 +1,4 @@
-// The checks of document 01's numbers 1 and 9 on samples and settings.
+// The checks of the rules' numbers 1 and 9 on samples and settings.
 ghost use mathlib.Core.Path.{_≡_};
 ghost use Prim.Native.Nat.{_<_};
 ghost use lib.ListN.{length};

@@ -1,4 +1,4 @@
-// Doubles as document 01 reads them: finite, in a range, with minus zero counted as zero; and one of two picked by a test.
+// Doubles as the rules read them: finite, in a range, with minus zero counted as zero; and one of two picked by a test.
 ghost use mathlib.Core.Path.{_≡_};
 ghost use Rattle.whole.specs.Search.{pick};
 ghost use Rattle.calibrate_rows.specs.Doubles.{finite, between, unsigned};

@@ -1,5 +1,5 @@
 // Calibration: detector samples of flow and occupancy become a triangular diagram, and `calibrate` has `calibrate_rows` make the
-// cell row of it too. Every sum and quotient is rounded once, in document 01's order.
+// cell row of it too. Every sum and quotient is rounded once, in the rules' order.
 ghost use mathlib.Core.Path.{_≡_};
 ghost use Prim.Native.Nat.{ℕ, _≤_, _<_};
 ghost use mathlib.Core.Bool.{false, _&&_};

@@ -1,4 +1,4 @@
--- Document 01, "Worked figures": g 1/256, one lane, samples (960, 1/16), (1,920, 1/8) free, then (960, 3/8), T 10 and L 1/2,
+-- Rules, "Worked figures": g 1/256, one lane, samples (960, 1/16), (1,920, 1/8) free, then (960, 3/8), T 10 and L 1/2,
 -- worked out by the definitions. Assumes nothing.
 use mathlib.Core.Path.{_≡_, refl}
 use mathlib.Core.List.{List, [], _∷_}

@@ -1,4 +1,4 @@
--- Document 01, "Calibration": doubles. Each operation is rounded once.
+-- Rules, "Calibration": doubles. Each operation is rounded once.
 use Prim.Native.Nat.{ℕ}
 use mathlib.Core.Bool.{Bool, true, false, _&&_}
 use lib.IntN.{pos}

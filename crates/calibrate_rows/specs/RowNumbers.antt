@@ -1,4 +1,4 @@
--- Document 01, "Calibration": the row values before rounding, and each rounded down.
+-- Rules, "Calibration": the row values before rounding, and each rounded down.
 use Prim.Native.Nat.{ℕ, _*_, _/_}
 use mathlib.Core.Bool.{Bool}
 use lib.Ieee.{Float, nan, inf, fin, up, down}

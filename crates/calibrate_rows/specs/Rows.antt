@@ -1,4 +1,4 @@
--- Document 01, "Refusal numbers" 9 and 11: what is asked of a row, and what is answered.
+-- Rules, "Refusal numbers" 9 and 11: what is asked of a row, and what is answered.
 use Prim.Native.Nat.{ℕ, _+_}
 use mathlib.Core.Bool.{Bool, true, _&&_}
 use mathlib.Core.List.{List, [], _∷_}

@@ -1,5 +1,5 @@
 // The row maker: from a diagram to the four numbers v, w, F and J of a cell row, for a period T and a cell of length L. Each
-// product and quotient is rounded once, in document 01's order, and then each value is rounded down.
+// product and quotient is rounded once, in the rules' order, and then each value is rounded down.
 ghost use mathlib.Core.Path.{_≡_};
 ghost use mathlib.Core.List.{[], _∷_};
 ghost use Rattle.refusals.specs.Checks.{least, answer};

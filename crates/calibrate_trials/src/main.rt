@@ -1,5 +1,5 @@
-// Calibrates 16,384 sets of drawn samples and prints a digest of the answers' bits after each 2,048 sets. The stored output
-// is what the independent implementation in peer/calibration.rs prints, so that a run compares the two bit for bit. Among
+// Calibrates 16,384 sets of drawn samples and prints a digest of the answers' bits after each 2,048 sets. A test of the independent
+// implementation (peer/model/tests/trials.rs) comes to the stored output from the same sets, so that the two are compared bit for bit. Among
 // the samples are subnormal, huge, equal and boundary values, infinities and NaNs.
 use calibrate_fit::Calibration;
 use calibrate_fit::Settings;

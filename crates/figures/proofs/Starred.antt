@@ -1,4 +1,4 @@
--- Every starred figure of document 01 holds, by computation. Assumes nothing.
+-- Every starred figure of the rules holds, by computation. Assumes nothing.
 use mathlib.Core.Path.{_≡_, refl}
 use mathlib.Core.Bool.{true}
 use Rattle.refusals.specs.Checks.{orLater}

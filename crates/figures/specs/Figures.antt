@@ -1,4 +1,4 @@
--- Document 01, "Worked figures": the starred ones as one list of cases, and the test that each must pass.
+-- Rules, "Worked figures": the starred ones as one list of cases, and the test that each must pass.
 use Prim.Native.Nat.{ℕ}
 use mathlib.Core.Bool.{Bool, true, false, _&&_}
 use mathlib.Core.List.{List, [], _∷_, _++_}

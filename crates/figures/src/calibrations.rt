@@ -1,4 +1,4 @@
-// Document 01's worked calibration, and after it a calibration that is refused with each of its numbers.
+// The rules' worked calibration, and after it a calibration that is refused with each of its numbers.
 use calibrate_fit::Calibration;
 use calibrate_fit::Settings;
 use calibrate_rows::Diagram;

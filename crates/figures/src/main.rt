@@ -1,4 +1,4 @@
-// Runs document 01's worked figures through the public functions and prints a line for each, which is held to the
+// Runs the rules' worked figures through the public functions and prints a line for each, which is held to the
 // stored output. The starred ones are also proved, as one list of cases (specs/Figures.antt).
 mod calibrations;
 

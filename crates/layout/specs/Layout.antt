@@ -1,4 +1,4 @@
--- Document 01, "Units and the cell row": where each number stands in a table, a state and a demand row, and how long each list is. Only this
+-- Rules, "Units and the cell row": where each number stands in a table, a state and a demand row, and how long each list is. Only this
 -- file, and `Sheet` for the flow sheet, knows.
 use Prim.Native.Nat.{ℕ, _+_, _*_, _/_, _%_, _≤_}
 use mathlib.Core.List.{List, [], _∷_}

@@ -1,4 +1,4 @@
--- Document 01, "One period": where each number stands in a flow sheet of n cells: entry flow, then all f, all s, all r, all modes.
+-- Rules, "One period": where each number stands in a flow sheet of n cells: entry flow, then all f, all s, all r, all modes.
 use Prim.Native.Nat.{ℕ, suc, _+_, _*_}
 use mathlib.Core.List.{List, [], _∷_}
 use lib.ListN.{getD, set}

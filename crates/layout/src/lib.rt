@@ -1,5 +1,5 @@
-// Where each number stands in a table, a state, a demand row and a flow sheet, and how long each list is: no other code indexes these lists
-// or works out a length. The readers and writers ask that the index is within the list.
+// Where each number stands in a table, a state, a demand row and a flow sheet, and how long each list is: no other code says where a number
+// stands or works out a length. The readers and writers ask that the index is within the list.
 ghost use mathlib.Core.Path.{_≡_};
 ghost use Prim.Native.Nat.{_+_, _*_, _<_};
 ghost use lib.ListN.{length};
@@ -8,7 +8,7 @@ ghost use Rattle.layout.specs.Layout.{WIDTH, Listed, MOST, cells, tableL
 
 pub mod sheet;
 
-// One row of a cell table, in document 01's order of columns.
+// One row of a cell table, in the rules' order of columns.
 pub struct Row {
     pub v: u32,
     pub w: u32,

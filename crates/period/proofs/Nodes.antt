@@ -85,7 +85,7 @@ least-of-both m capacity room h = by (ltb m room) refl
     by true f = let k = ltb-true m room f in lt-ltb m (min capacity room) (omega arith) ∙ sym f
     by false f = let k = ltb-false m room f in le-ltb m (min capacity room) (omega arith) ∙ sym f
 
--- M < F and a < R, with a the least of M and F, is M < min(F, R): document 01's step 7
+-- M < F and a < R, with a the least of M and F, is M < min(F, R): Rules, "One period", step 7
 pub free-is : (m capacity room : ℕ) → ltb m (min capacity room) ≡ (ltb m capacity && ltb (min m capacity) room)
 free-is m capacity room = by (ltb m capacity) refl
   where

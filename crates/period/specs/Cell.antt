@@ -1,4 +1,4 @@
--- Document 01, "One period", steps 1, 2, 4 and 7: what one cell would send, has room for and lets off, and its mode, from its row, its
+-- Rules, "One period", steps 1, 2, 4 and 7: what one cell would send, has room for and lets off, and its mode, from its row, its
 -- count n at the period's start and its off-ramp demand o. Divisions round down.
 use Prim.Native.Nat.{ℕ, _+_, _-_, _*_, _/_, min}
 use mathlib.Core.Bool.{Bool, _&&_}

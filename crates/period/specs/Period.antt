@@ -1,4 +1,4 @@
--- Document 01, "One period": every flow from the state at the period's start, the sheet, and the state after.
+-- Rules, "One period": every flow from the state at the period's start, the sheet, and the state after.
 use Prim.Native.Nat.{ℕ, suc, _+_, min}
 use mathlib.Core.Path.{_≡_}
 use mathlib.Core.Bool.{true, _&&_}

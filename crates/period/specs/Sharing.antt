@@ -1,4 +1,4 @@
--- Document 01, "One period", steps 3, 5 and 7, at one node: how the receiving cell, with its row and its count n, shares its room between
+-- Rules, "One period", steps 3, 5 and 7, at one node: how the receiving cell, with its row and its count n, shares its room between
 -- what the mainline offers, a, and what its on-ramp offers, e: what passes on the mainline and from the on-ramp, and whether the room leaves
 -- the mainline free. Another way of sharing is another such function.
 use Prim.Native.Nat.{ℕ, _-_, min}

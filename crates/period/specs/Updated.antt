@@ -1,4 +1,4 @@
--- Document 01, "One period", step 6: the state after a period of n cells, from the old state, the demand row and the sheet, whatever way of
+-- Rules, "One period", step 6: the state after a period of n cells, from the old state, the demand row and the sheet, whatever way of
 -- sharing wrote the sheet.
 use Prim.Native.Nat.{ℕ, _+_, _-_}
 use mathlib.Core.List.{List}

@@ -1,4 +1,4 @@
--- Document 01, "One period": a run of K demand rows end to end.
+-- Rules, "One period": a run of K demand rows end to end.
 use Prim.Native.Nat.{ℕ, zero, suc, _*_, _/_, _%_}
 use mathlib.Core.Path.{_≡_}
 use mathlib.Core.Bool.{Bool, true, false, _&&_}

@@ -1,4 +1,4 @@
--- Document 01, "The text and the program": `cells.csv` and `state.csv`, read piece after piece into a list, and what they come to.
+-- Rules, "The text and the program": `cells.csv` and `state.csv`, read piece after piece into a list, and what they come to.
 use Prim.Native.Nat.{ℕ, _+_}
 use mathlib.Core.Bool.{Bool}
 use mathlib.Core.List.{List, [], _∷_}

@@ -1,4 +1,4 @@
--- Document 01, "The text and the program": what a refusal's line says.
+-- Rules, "The text and the program": what a refusal's line says.
 use Prim.Native.Nat.{ℕ}
 use Rattle.refusals.specs.declared.Refusal.{Refusal}
 use Rattle.refusals.specs.Refusals.{numberOf, placeOf}

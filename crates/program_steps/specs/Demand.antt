@@ -1,4 +1,4 @@
--- Document 01, "The text and the program": the demand, followed byte after byte. A complete record has its period and its lines.
+-- Rules, "The text and the program": the demand, followed byte after byte. A complete record has its period and its lines.
 -- Following stops where the bytes are used up, where the output has no room for another period's lines, and where a record is refused.
 use Prim.Native.Nat.{ℕ, _+_, _-_, _*_}
 use mathlib.Core.Path.{_≡_}

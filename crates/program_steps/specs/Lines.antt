@@ -1,4 +1,4 @@
--- Document 01, "The text and the program": the lines that the run program writes. Each ends with CR LF.
+-- Rules, "The text and the program": the lines that the run program writes. Each ends with CR LF.
 use Prim.Native.Nat.{ℕ, _+_}
 use mathlib.Core.List.{List, [], _∷_, _++_}
 use lib.Dec.{leb}

@@ -1,4 +1,4 @@
--- Document 01, "The text and the program": the whole run program, from three files to the output.
+-- Rules, "The text and the program": the whole run program, from three files to the output.
 use Prim.Native.Nat.{ℕ, _+_}
 use mathlib.Core.List.{List, [], _∷_, _++_}
 use lib.ListN.{set}

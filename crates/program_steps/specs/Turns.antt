@@ -1,4 +1,4 @@
--- Document 01, "The text and the program": a demand record is read, checked, run and written, one for each period.
+-- Rules, "The text and the program": a demand record is read, checked, run and written, one for each period.
 use Prim.Native.Nat.{ℕ}
 use mathlib.Core.List.{List, []}
 use Rattle.refusals.specs.declared.Refusal.{Refusal}

@@ -1,4 +1,4 @@
--- Document 01, "Re-cut": the pieces of the old cells, which are the new cells in order, and what is asked of them.
+-- Rules, "Re-cut": the pieces of the old cells, which are the new cells in order, and what is asked of them.
 use Prim.Native.Nat.{ℕ, zero, suc, _+_, _-_}
 use mathlib.Core.Bool.{Bool, not, _&&_, _||_}
 use mathlib.Core.List.{List}

@@ -1,4 +1,4 @@
--- Document 01, "Re-cut": the new state, and what is refused.
+-- Rules, "Re-cut": the new state, and what is refused.
 use Prim.Native.Nat.{ℕ, _+_, _-_, _*_, _/_}
 use mathlib.Core.Path.{_≡_}
 use mathlib.Core.Bool.{Bool, _&&_}

@@ -1,4 +1,4 @@
--- Document 01, "Refusal numbers": the lowest number that applies is given, at its smallest place.
+-- Rules, "Refusal numbers": the lowest number that applies is given, at its smallest place.
 use Prim.Native.Nat.{ℕ}
 use mathlib.Core.Bool.{Bool}
 use mathlib.Core.List.{List, [], _∷_}

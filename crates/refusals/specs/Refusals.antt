@@ -1,4 +1,4 @@
--- Document 01, "Refusal numbers": the number and the place of each refusal.
+-- Rules, "Refusal numbers": the number and the place of each refusal.
 use Prim.Native.Nat.{ℕ}
 use Rattle.refusals.specs.declared.Refusal.{Refusal}
 use Rattle.refusals.specs.declared.Refusal.the-variants.{Length, TableNumber, RoomShares, RampAgain, StateNumber, Demand, QueueOver, Pieces, Sample, Fit, RowValue, Record}

@@ -2,7 +2,7 @@
 ghost use mathlib.Core.Path.{_≡_};
 ghost use Rattle.refusals.specs.Refusals.{numberOf, placeOf};
 
-// A refusal for each number of document 01, with its place.
+// A refusal for each number of the rules, with its place.
 pub enum Refusal {
     Length,
     TableNumber(usize),
@@ -23,7 +23,7 @@ pub enum Answer {
     Refused(Refusal),
 }
 
-// Document 01's number of a refusal.
+// The number of a refusal, as the rules table it.
 pub fn number(refusal: Refusal) -> u32
     ensures { λ r. ⌜ r ≡ numberOf refusal ⌝ }
 {

@@ -1,4 +1,4 @@
--- Document 01, "The text and the program": the decimal digits of a number, and the line of a record. A text is a list of bytes.
+-- Rules, "The text and the program": the decimal digits of a number, and the line of a record. A text is a list of bytes.
 use Prim.Native.Nat.{ℕ, zero, suc, _+_, _/_, _%_}
 use mathlib.Core.List.{List, [], _∷_, _++_}
 use lib.Dec.{ltb}

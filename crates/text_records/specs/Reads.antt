@@ -1,4 +1,4 @@
--- Document 01, "The text and the program": a record, and a whole text, read byte after byte.
+-- Rules, "The text and the program": a record, and a whole text, read byte after byte.
 use Prim.Native.Nat.{ℕ, _+_, _*_}
 use mathlib.Core.List.{List, [], _∷_}
 use lib.Dec.{leb, eqb}

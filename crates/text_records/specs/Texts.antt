@@ -1,4 +1,4 @@
--- Document 01, "The text and the program": the text of records of whole numbers. A text is a list of bytes.
+-- Rules, "The text and the program": the text of records of whole numbers. A text is a list of bytes.
 use Prim.Native.Nat.{ℕ, _≤_}
 use mathlib.Core.Path.{_≡_}
 use mathlib.Core.List.{List, [], _∷_, _++_}

@@ -1,4 +1,4 @@
-// The text: records of whole numbers as document 01 writes them. What is read is a fold over the bytes, so that a text may come in pieces of
+// The text: records of whole numbers as the rules write them. What is read is a fold over the bytes, so that a text may come in pieces of
 // any size.
 ghost use mathlib.Core.Path.{_≡_};
 ghost use lib.ListN.{length, drop};

@@ -1,4 +1,4 @@
--- Document 01, "The text and the program": what one byte of a text does, by where the reading stands in its record.
+-- Rules, "The text and the program": what one byte of a text does, by where the reading stands in its record.
 use Prim.Native.Nat.{ℕ, _+_, _-_, _*_}
 use mathlib.Core.Bool.{Bool, false, _&&_, not}
 use lib.Dec.{leb, ltb, eqb}

@@ -1,4 +1,4 @@
--- Document 01, "Units and the cell row": shares are whole numbers over ONE, and divisions round down.
+-- Rules, "Units and the cell row": shares are whole numbers over ONE, and divisions round down.
 use Prim.Native.Nat.{ℕ, _*_, _/_}
 
 abbrev pub ONE : ℕ

@@ -81,7 +81,7 @@ pub struct Diagram {
 }
 
 impl Diagram {
-    /// The five doubles in the order of the document.
+    /// The five doubles in the order of the rules.
     pub fn to_array(self) -> [f64; 5] {
         [self.speed, self.capacity, self.critical, self.wave, self.jam]
     }

@@ -1,6 +1,6 @@
 //! The freeway cell model in plain Rust: acceptance, one period, a run, the re-cut, calibration and the run program.
 //!
-//! Written from the scope document alone, as an independent peer of the proved implementation. Vehicles are whole
+//! Written from the rules alone (docs/RULES.md), as an independent peer of the proved implementation. Vehicles are whole
 //! thousandths, shares are whole numbers over [`ONE`], and every list is a slice of `u32` (calibration: of `f64`).
 #![forbid(unsafe_code)]
 

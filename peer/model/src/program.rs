@@ -1,6 +1,6 @@
 //! The run program: three texts in, a flow sheet out.
 
-use std::io::{self, Read, Write};
+use std::io::{self, ErrorKind, Read, Write};
 
 use crate::corridor::{row_rules, rows, state_rules, table_rules};
 use crate::period::step;
@@ -34,13 +34,10 @@ const ENOUGH: usize = 1 << 16;
 /// Why the program ends before the demand does.
 enum Stop {
     Refused { period: u64, place: u64, number: u32, file: u32 },
+    /// A file is missing or can't be read on.
+    Lost { period: u64, file: File, error: io::Error },
+    /// The output can't be written.
     Failed(io::Error),
-}
-
-impl From<io::Error> for Stop {
-    fn from(error: io::Error) -> Stop {
-        Stop::Failed(error)
-    }
 }
 
 impl Stop {
@@ -49,8 +46,9 @@ impl Stop {
         Stop::Refused { period, place, number: 12, file: file as u32 }
     }
 
-    fn missing(file: File) -> Stop {
-        Stop::record(0, 0, file)
+    /// What a failed read comes to, while a period is tried.
+    fn lost(period: u64, file: File) -> impl Fn(io::Error) -> Stop {
+        move |error| Stop::Lost { period, file, error }
     }
 
     fn rule(period: u64, refusal: Refusal) -> Stop {
@@ -62,21 +60,24 @@ impl Stop {
 /// The whole program from three optional texts to the output.
 pub fn simulate(cells: Option<&[u8]>, state: Option<&[u8]>, demand: Option<&[u8]>) -> Vec<u8> {
     let open = |file| {
-        Ok(match file {
+        match file {
             File::Cells => cells,
             File::State => state,
             File::Demand => demand,
-        })
+        }
+        .ok_or(ErrorKind::NotFound.into())
     };
     let mut out = Vec::new();
-    simulate_with(open, &mut out).expect("slices are read and a vector is written without failing");
+    simulate_with(open, |_, _| {}, &mut out).expect("a vector is written without failing");
     out
 }
 
-/// The program over files that `open` gives, or nothing for a missing one. A file is opened when its turn comes and read
-/// through a buffer of fixed size. An error is a failed read or write, never a refusal: a refusal is part of the output.
+/// The program over the files that `open` gives. A file is opened when its turn comes and read through a buffer of fixed size. One
+/// that can't be opened, or can't be read on, is told to `lost`, and is a refusal like any other: a part of the output. The
+/// error is a failed write.
 pub fn simulate_with<R: Read>(
-    mut open: impl FnMut(File) -> io::Result<Option<R>>,
+    mut open: impl FnMut(File) -> io::Result<R>,
+    mut lost: impl FnMut(File, io::Error),
     mut out: impl Write,
 ) -> io::Result<()> {
     let mut text = HEADER.to_vec();
@@ -85,22 +86,22 @@ pub fn simulate_with<R: Read>(
         Err(Stop::Refused { period, place, number, file }) => {
             write_record(&mut text, [period, place, number.into(), file.into(), 0, 0, 2]);
         }
-        Err(Stop::Failed(error)) => {
-            // What was worked out before the failure still goes out; the failure itself is reported.
-            out.write_all(&text)?;
-            return Err(error);
+        Err(Stop::Lost { period, file, error }) => {
+            lost(file, error);
+            write_record(&mut text, [period, 0, 12, file as u64, 0, 0, 2]);
         }
+        Err(Stop::Failed(error)) => return Err(error),
     }
     out.write_all(&text)?;
     out.flush()
 }
 
 fn periods<R: Read>(
-    open: &mut impl FnMut(File) -> io::Result<Option<R>>,
+    open: &mut impl FnMut(File) -> io::Result<R>,
     out: &mut impl Write,
     text: &mut Vec<u8>,
 ) -> Result<(), Stop> {
-    let mut open = |file| open(file)?.map(Records::new).ok_or(Stop::missing(file));
+    let mut open = |file| open(file).map(Records::new).map_err(Stop::lost(0, file));
 
     let table = read_cells(open(File::Cells)?)?;
     let rows = rows(&table).map_err(|refusal| Stop::rule(0, refusal))?;
@@ -112,7 +113,7 @@ fn periods<R: Read>(
     let mut row = vec![0; state_length(rows.len())];
     let mut sheet = vec![0; sheet_length(rows.len())];
     for period in 1.. {
-        match demand.next(&mut row)? {
+        match demand.next(&mut row).map_err(Stop::lost(period, File::Demand))? {
             Next::End => break,
             Next::Broken => return Err(Stop::record(period, period, File::Demand)),
             Next::Record => {}
@@ -121,7 +122,7 @@ fn periods<R: Read>(
         step(rows, &mut state, &row, &mut sheet);
         write_period(text, period, rows.len(), &state, &sheet);
         if text.len() >= ENOUGH {
-            out.write_all(text)?;
+            out.write_all(text).map_err(Stop::Failed)?;
             text.clear();
         }
     }
@@ -133,7 +134,7 @@ fn read_cells<R: Read>(mut records: Records<R>) -> Result<Vec<u32>, Stop> {
     let mut table = Vec::new();
     let mut row = [0; COLUMNS];
     for record in 1.. {
-        match records.next(&mut row)? {
+        match records.next(&mut row).map_err(Stop::lost(0, File::Cells))? {
             Next::End => break,
             Next::Broken => return Err(Stop::record(0, record, File::Cells)),
             Next::Record if table.len() <= MOST_CELLS * COLUMNS => table.extend_from_slice(&row),
@@ -146,10 +147,11 @@ fn read_cells<R: Read>(mut records: Records<R>) -> Result<Vec<u32>, Stop> {
 /// The one record of the state.
 fn read_state<R: Read>(mut records: Records<R>, cells: usize) -> Result<Vec<u32>, Stop> {
     let mut state = vec![0; state_length(cells)];
-    if records.next(&mut state)? != Next::Record {
+    let lost = Stop::lost(0, File::State);
+    if records.next(&mut state).map_err(&lost)? != Next::Record {
         return Err(Stop::record(0, 1, File::State));
     }
-    match records.next(&mut [])? {
+    match records.next(&mut []).map_err(&lost)? {
         Next::End => Ok(state),
         _ => Err(Stop::record(0, 2, File::State)),
     }

@@ -53,6 +53,26 @@ fn record(text: &[u8], fields: &mut [u32]) -> Option<usize> {
     }
 }
 
+/// Whether a text that stops here could still go on to a record of so many fields: nothing in it breaks one, and its end has not come.
+fn unfinished(text: &[u8], fields: usize) -> bool {
+    let mut at = 0;
+    for i in 0..fields {
+        if i > 0 && at < text.len() {
+            if text[at] != b',' {
+                return false;
+            }
+            at += 1;
+        }
+        if at < text.len() {
+            match number(&text[at..]) {
+                Some((_, used)) => at += used,
+                None => return false,
+            }
+        }
+    }
+    at <= LONGEST_RECORD && matches!(text[at..], [] | [b'\r'])
+}
+
 /// What comes next in a text.
 #[derive(Clone, Copy, Debug, PartialEq, Eq)]
 pub enum Next {
@@ -71,36 +91,41 @@ pub struct Records<R> {
     start: usize,
     end: usize,
     ended: bool,
+    /// The read that failed, until the records before it have been handed out.
+    failed: Option<io::Error>,
 }
 
 impl<R: Read> Records<R> {
     pub fn new(source: R) -> Self {
-        Records { source, buffer: vec![0; BUFFER].into(), start: 0, end: 0, ended: false }
+        Records { source, buffer: vec![0; BUFFER].into(), start: 0, end: 0, ended: false, failed: None }
     }
 
-    /// Reads until the buffer holds more than the longest record with its end, or the text has ended.
-    fn fill(&mut self) -> io::Result<()> {
-        if self.ended || self.end - self.start > LONGEST_RECORD + 2 {
-            return Ok(());
+    /// Reads until the buffer holds more than the longest record with its end, or the text has ended, or a read fails.
+    fn fill(&mut self) {
+        if self.ended || self.failed.is_some() || self.end - self.start > LONGEST_RECORD + 2 {
+            return;
         }
         self.buffer.copy_within(self.start..self.end, 0);
         self.end -= self.start;
         self.start = 0;
-        while !self.ended && self.end <= LONGEST_RECORD + 2 {
+        while !self.ended && self.failed.is_none() && self.end <= LONGEST_RECORD + 2 {
             match self.source.read(&mut self.buffer[self.end..]) {
                 Ok(0) => self.ended = true,
                 Ok(read) => self.end += read,
                 Err(error) if error.kind() == io::ErrorKind::Interrupted => {}
-                Err(error) => return Err(error),
+                Err(error) => self.failed = Some(error),
             }
         }
-        Ok(())
     }
 
-    /// Reads the next record into `fields`. After a broken record there is nothing more to ask for.
+    /// Reads the next record into `fields`. A read that failed is told where the records before it have ended. After that, or after a
+    /// broken record, there is nothing more to ask for.
     pub fn next(&mut self, fields: &mut [u32]) -> io::Result<Next> {
-        self.fill()?;
+        self.fill();
         let text = &self.buffer[self.start..self.end];
+        if self.failed.is_some() && unfinished(text, fields.len()) {
+            return Err(self.failed.take().expect("it has just been seen"));
+        }
         if text.is_empty() {
             return Ok(Next::End);
         }
