@@ -1,5 +1,5 @@
--- Each list of checks that a public promise is made of gives the lowest number that applies, at its smallest place; a re-cut's, which asks one number
--- of two tables in turn, the lowest number. Assumes nothing.
+-- Each list of checks that a public promise is made of gives the lowest number that applies, at its smallest place; where one number is asked of two
+-- tables in turn, the lowest number. Assumes nothing.
 use Prim.Native.Nat.{ℕ}
 use mathlib.Core.Path.{_≡_, refl}
 use mathlib.Core.Bool.{Bool}
@@ -10,7 +10,7 @@ use Rattle.refusals.specs.declared.Refusal.{Refusal}
 use Rattle.refusals.specs.declared.Answer.the-variants.{Refused}
 use Rattle.refusals.specs.Checks.{lengths, answer}
 use Rattle.layout.specs.Corridor.{Corridor}
-use Rattle.accept_tables.specs.Tables.{rowsInRange, roomsShared, rampsOnce, tableChecks}
+use Rattle.accept_tables.specs.Tables.{rowsInRange, roomsShared, rampsOnce, tableChecks, bothTablesChecks}
 use Rattle.accept_rows.specs.Acceptance.{stateInRange, demandInRange, queuesHold, stateChecks, rowChecks, demandNumbers, demandChecks, stateAloneChecks}
 use Rattle.period.specs.Period.{periodChecks}
 use Rattle.period_run.specs.Run.{runChecks}
@@ -69,6 +69,12 @@ pub table-lowest : (table : List ℕ) {refusal : Refusal} → answer (tableCheck
 table-lowest table =
     smallest-place 1 (1 ∷ 2 ∷ 3 ∷ 4 ∷ []) (tableChecks table)
     (omega arith, (one _, (omega arith, (two table, (omega arith, (three table, (omega arith, (four table, tt))))))))
+
+-- of two tables in turn the number is the lowest
+pub both-tables-lowest : (first second : List ℕ) {refusal : Refusal} → answer (bothTablesChecks first second) ≡ Refused refusal → LowestNumber (bothTablesChecks first second) refusal
+both-tables-lowest first second =
+    lowest-number 1 (1 ∷ 2 ∷ 2 ∷ 3 ∷ 3 ∷ 4 ∷ 4 ∷ []) (bothTablesChecks first second)
+    (omega arith, (one _, (omega arith, (two first, (omega arith, (two second, (omega arith, (three first, (omega arith, (three second, (omega arith, (four first, (omega arith, (four second, tt))))))))))))))
 
 module _ (c : Corridor) {refusal : Refusal} where
   pub state-lowest : answer (stateChecks c) ≡ Refused refusal → SmallestPlace (stateChecks c) refusal
