@@ -8,7 +8,7 @@ ghost use Rattle.text_scans.specs.Scans.{begin, untouched};
 ghost use Rattle.refusals.specs.Checks.{answer};
 ghost use Rattle.layout.specs.Corridor.{corridorOf};
 ghost use Rattle.accept_rows.specs.Acceptance.{stateChecks};
-ghost use Rattle.program_files.specs.Stops.{broken, refusedIn};
+ghost use Rattle.program_files.specs.Stops.{stopOf, broken, refusedIn};
 ghost use Rattle.program_files.specs.Files.{counted, nextIndex, fileOn, fileEnd, cellsFound, stateFound, acceptedThen, demandLost};
 use refusals::Answer;
 use refusals::Refusal;
@@ -180,28 +180,30 @@ pub fn read_end(fields: usize, reading: Reading, list: &mut [u32]) -> File
     }
 }
 
+// The number and the place of a refusal, in a period and a file.
+fn stop_of(period: usize, refusal: Refusal, file: u32) -> Stop
+    ensures { λ r. ⌜ r ≡ stopOf period refusal file ⌝ }
+{
+    Stop {
+        period,
+        place: refusals::place(refusal),
+        number: refusals::number(refusal),
+        file,
+    }
+}
+
 // Number 12 of a record of a file.
 pub fn broken(period: usize, place: usize, file: u32) -> Stop
     ensures { λ r. ⌜ r ≡ broken period place file ⌝ }
 {
-    Stop {
-        period,
-        place,
-        number: 12,
-        file,
-    }
+    stop_of(period, Refusal::Record(place), file)
 }
 
 // Any other number.
 pub fn refused_in(period: usize, refusal: Refusal) -> Stop
     ensures { λ r. ⌜ r ≡ refusedIn period refusal ⌝ }
 {
-    Stop {
-        period,
-        place: refusals::place(refusal),
-        number: refusals::number(refusal),
-        file: 0,
-    }
+    stop_of(period, refusal, 0)
 }
 
 // What the cells come to: 12 for any of their records, then 1 on N.

@@ -1,36 +1,36 @@
 -- The calls of `follow`, `end` and the two lines, whatever their lists. Assumes nothing.
-use Prim.Native.Nat.{ℕ, _+_, _-_, _≤_, _<_}
+use Prim.Native.Nat.{ℕ, _+_, _-_, _/_, _≤_, _<_}
 use mathlib.Core.Path.{_≡_, refl, sym, ap, _∙_}
-use mathlib.Core.Bool.{Bool, true, false, _&&_, false≢true}
+use mathlib.Core.Bool.{Bool, true, false, not, _&&_}
 use mathlib.Core.List.{List}
 use native.Mathlib.Omega.{arith}
-use borrow.Author.Tests.{leb-true, eqb-true, le-leb, lt-leb}
-use lib.Dec.{leb, eqb}
+use borrow.Author.Tests.{leb-true, leb-false, eqb-true, le-leb, lt-leb, lt-ltb, le-ltb, not-true, not-false}
+use lib.Dec.{ltb, leb, eqb}
 use lib.ListN.{length}
 use Rattle.whole.proofs.Tests.{both-hold}
 use Rattle.refusals.specs.declared.Answer.{Answer}
 use Rattle.refusals.specs.declared.Answer.the-variants.{Accepted, Refused}
 use Rattle.refusals.specs.declared.Refusal.{Refusal}
-use Rattle.refusals.specs.Checks.{answer}
-use Rattle.layout.specs.Layout.{demandLength, MOST}
+use Rattle.refusals.specs.declared.Refusal.the-variants.{Length}
+use Rattle.refusals.specs.Checks.{answer, lengths}
+use Rattle.refusals.proofs.Answers.{length-fits-too, length-fails, accepted-passes}
+use Rattle.layout.specs.Layout.{demandLength}
 use Rattle.layout.specs.Sheet.{sheetLength}
 use Rattle.layout.specs.Corridor.{Corridor, cellsOf}
 use Rattle.text_digits.specs.declared.Written.the-variants.{To, NoRoom}
 use Rattle.text_scans.specs.Scans.{ended}
 use Rattle.text_scans.specs.declared.Scan.{Scan}
 use Rattle.text_records.specs.Reads.{rowAtEnd}
-use Rattle.accept_rows.specs.Acceptance.{stateChecks}
-use Rattle.accept_rows.proofs.Lengths.{cells-most}
+use Rattle.accept_rows.specs.Acceptance.{stateLengthsFit, stateNumbers, stateChecks}
 use Rattle.period.specs.Sharing.{Sharing}
 use Rattle.program_steps.specs.Lines.{lineRoom, lineWritten, afterLine}
 use Rattle.program_steps.specs.Turns.{Did, reads, breaks, refuses, passes, did, lastRead, didText, linesOf, demandAnswer}
-use Rattle.program_steps.specs.Demand.{Followed, linesRoom, followEnd, andAccepted, runFits, ifFits, runOf, Leaves}
+use Rattle.program_steps.specs.Demand.{Followed, linesRoom, followEnd, followListsFit, followChecks, ifAccepted, runOf, Leaves}
 use Rattle.program_steps.specs.declared.Run.{Run}
-use Rattle.program_steps.specs.declared.Run.the-variants.{Over, Unfit}
+use Rattle.program_steps.specs.declared.Run.the-variants as Run
 use Rattle.program_steps.specs.declared.Turn.{Turn}
 use Rattle.program_steps.specs.declared.Turn.the-variants as Turn
 use Rattle.program_steps.specs.Private.{ReadyAt, Put, turnOf, Turned, writtenTo}
-use Rattle.program_steps.proofs.Turning.{accepted-fits, accepted-ready}
 
 -- a line at the start of an output
 
@@ -47,48 +47,61 @@ line-put out text {to} has put =
 pub no-room : (n size at : ℕ) → size < at → false ≡ leb (linesRoom n) (size - at)
 no-room n size at past = sym (lt-leb (linesRoom n) (size - at) (omega arith))
 
+-- as many whole lines as the room has, against a period's n + 1
+pub lines-told : (n room : ℕ) → ltb n (room / lineRoom) ≡ leb (linesRoom n) room
+lines-told n room = by (leb (linesRoom n) room) refl
+  where
+    by : (fits : Bool) → leb (linesRoom n) room ≡ fits → ltb n (room / lineRoom) ≡ fits
+    by true e = lt-ltb n (room / lineRoom) (omega (arith, leb-true (linesRoom n) room e))
+    by false e = le-ltb n (room / lineRoom) (omega (arith, leb-false (linesRoom n) room e))
+
 -- the lists of a run
 
-pub refused-fits : (c : Corridor) (row sheet out : List ℕ) {refusal : Refusal} → answer (stateChecks c) ≡ Refused refusal → false ≡ runFits c row sheet out
-unfolding runFits andAccepted
-refused-fits c row sheet out e = rw e
+pub lists-told : (n : ℕ) (row sheet out : List ℕ) {fields numbers : ℕ} {room : Bool} → fields ≡ demandLength n → numbers ≡ sheetLength n → room ≡ leb (linesRoom n) (length out - 0)
+    → ((eqb (length row) fields && eqb (length sheet) numbers) && room) ≡ followListsFit n row sheet out
+unfolding followListsFit
+lists-told n row sheet out of-row of-sheet has = let all : length out - 0 ≡ length out = omega arith in rw (has, of-row, of-sheet, all)
 
-pub accepted-run-fits : (c : Corridor) (row sheet out : List ℕ) {n fields numbers : ℕ} {room : Bool} → answer (stateChecks c) ≡ Accepted → n ≡ cellsOf c → fields ≡ demandLength n → numbers ≡ sheetLength n
-    → room ≡ leb (linesRoom n) (length out - 0)
-    → ((eqb (length row) fields && eqb (length sheet) numbers) && room) ≡ runFits c row sheet out
-unfolding runFits andAccepted
-accepted-run-fits c row sheet out e same of-row of-sheet has = let all : length out - 0 ≡ length out = omega arith in rw (e, has, of-row, of-sheet, same, all)
+-- r tells whether the row, the sheet and the output fit
+pub lists-refused : (c : Corridor) (row sheet out : List ℕ) {r : Bool} → r ≡ followListsFit (cellsOf c) row sheet out → not r ≡ true
+    → Refused Length ≡ answer (followChecks c row sheet out)
+unfolding followChecks
+lists-refused c row sheet out e fails = length-fails (stateNumbers c) (stateLengthsFit c) (sym e ∙ not-true _ fails)
 
-pub accepted-cells : (c : Corridor) → answer (stateChecks c) ≡ Accepted → cellsOf c ≤ MOST
-accepted-cells c e = cells-most c (accepted-fits c e)
+pub lists-left : (c : Corridor) (row sheet out : List ℕ) {r : Bool} {a : Answer} → r ≡ followListsFit (cellsOf c) row sheet out → not r ≡ false
+    → a ≡ answer (stateChecks c) → a ≡ answer (followChecks c row sheet out)
+unfolding followChecks
+lists-left c row sheet out e fit found = found ∙ sym (length-fits-too (stateNumbers c) (stateLengthsFit c) (sym e ∙ not-false _ fit))
 
-and-accepted : (a : Answer) (fits : Bool) → andAccepted a fits ≡ true → (a ≡ Accepted) × (fits ≡ true)
-unfolding andAccepted
-and-accepted Accepted fits e = (refl, e)
-and-accepted (Refused refusal) fits e = absurd (false≢true e)
-
-pub run-fits-ready : (c : Corridor) (row sheet out : List ℕ) → runFits c row sheet out ≡ true → ReadyAt c row sheet out 0
-unfolding runFits
-run-fits-ready c row sheet out e =
+pub lists-ready : (c : Corridor) (row sheet out : List ℕ) → answer (followChecks c row sheet out) ≡ Accepted → ReadyAt c row sheet out 0
+unfolding followChecks followListsFit
+lists-ready c row sheet out e =
     let of-row = eqb (length row) (demandLength (cellsOf c)) in
     let of-sheet = eqb (length sheet) (sheetLength (cellsOf c)) in
     let of-out = leb (linesRoom (cellsOf c)) (length out) in
-    let whole = and-accepted (answer (stateChecks c)) (of-row && of-sheet && of-out) e in
-    let lists = both-hold (of-row && of-sheet) of-out (whole .1) in
-    let lengths = both-hold of-row of-sheet (lists .0) in
-    let row-fits = eqb-true (length row) (demandLength (cellsOf c)) (lengths .0) in
-    let sheet-fits = eqb-true (length sheet) (sheetLength (cellsOf c)) (lengths .1) in
-    let has = leb-true (linesRoom (cellsOf c)) (length out) (lists .1) in
-    record { ready = accepted-ready c (whole .0) row-fits sheet-fits; room = omega (arith, has) }
+    let passed = accepted-passes (lengths (stateLengthsFit c && followListsFit (cellsOf c) row sheet out)) (answer (stateNumbers c)) e in
+    let all = both-hold (stateLengthsFit c) (of-row && of-sheet && of-out) (passed .0 0 (omega arith)) in
+    let lists = both-hold (of-row && of-sheet) of-out (all .1) in
+    let its = both-hold of-row of-sheet (lists .0) in
+    record {
+      ready =
+          record {
+            fits = all .0;
+            row-fits = eqb-true (length row) (demandLength (cellsOf c)) (its .0);
+            sheet-fits = eqb-true (length sheet) (sheetLength (cellsOf c)) (its .1);
+            accepted = passed .1;
+          };
+      room = omega (arith, leb-true (linesRoom (cellsOf c)) (length out) (lists .1));
+    }
 
-module _ {fits : Bool} (row : List ℕ) (c : Corridor) (sheet : List ℕ) (f : Followed) {given : ℕ} {out : List ℕ} where
-  pub fits-leaves : {run : Run} {rowLeft : List ℕ} {corridorLeft : Corridor} {sheetLeft outLeft : List ℕ} → fits ≡ true
-      → Leaves f given out run rowLeft corridorLeft sheetLeft outLeft → Leaves (ifFits fits row c sheet f) given out run rowLeft corridorLeft sheetLeft outLeft
-  fits-leaves fit left = rw fit left
+module _ {a : Answer} (row : List ℕ) (c : Corridor) (sheet : List ℕ) (f : Followed) {given : ℕ} {out : List ℕ} where
+  pub accepted-leaves : {run : Run} {rowLeft : List ℕ} {corridorLeft : Corridor} {sheetLeft outLeft : List ℕ} → a ≡ Accepted
+      → Leaves f given out run rowLeft corridorLeft sheetLeft outLeft → Leaves (ifAccepted a row c sheet f) given out run rowLeft corridorLeft sheetLeft outLeft
+  accepted-leaves accepted left = rw accepted left
 
-  pub unfit-leaves : fits ≡ false → Leaves (ifFits fits row c sheet f) given out Unfit row c sheet out
+  pub refused-leaves : {refusal : Refusal} → a ≡ Refused refusal → Leaves (ifAccepted a row c sheet f) given out (Run.Refused refusal) row c sheet out
   unfolding runOf
-  unfit-leaves fit = rw fit (record { answered = refl; leavesRow = refl; leavesCorridor = refl; leavesSheet = refl; writes = refl })
+  refused-leaves e = rw e (record { answered = refl; leavesRow = refl; leavesCorridor = refl; leavesSheet = refl; writes = refl })
 
 -- the demand ends
 
@@ -97,11 +110,11 @@ pub end-leaves : (way : Sharing) (k : ℕ) (scan : Scan) (row : List ℕ) {c : C
     → rowLeft ≡ rowAtEnd (length row) scan row
     → Turned way (did (lastRead (ended scan (length row))) (demandAnswer c rowLeft)) k c rowLeft sheet out 0 turn corridorLeft sheetLeft outLeft
     → to ≡ length (didText k (linesOf way k c rowLeft) (did (lastRead (ended scan (length row))) (demandAnswer c rowLeft)))
-    → Leaves (followEnd way k scan row c sheet) 0 out (Over to) rowLeft corridorLeft sheetLeft outLeft
+    → Leaves (followEnd way k scan row c sheet) 0 out (Run.Over to) rowLeft corridorLeft sheetLeft outLeft
 unfolding followEnd runOf
 end-leaves way k scan row fits read t e =
     rw (sym fits, sym read)
-    (record { answered = ap Over e; leavesRow = refl; leavesCorridor = t .leavesCorridor; leavesSheet = t .leavesSheet; writes = t .writes })
+    (record { answered = ap Run.Over e; leavesRow = refl; leavesCorridor = t .leavesCorridor; leavesSheet = t .leavesSheet; writes = t .writes })
 
 -- where a turn ends
 pub turn-position : (d : Did) (n : ℕ) {turn : Turn} → turn ≡ turnOf d (0 + n) → writtenTo turn ≡ n

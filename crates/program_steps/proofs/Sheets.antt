@@ -9,6 +9,7 @@ use lib.ListN.{length, set, drop, length-drop, length-append}
 use Rattle.whole.specs.Search.{pick}
 use Rattle.refusals.specs.declared.Answer.{Answer}
 use Rattle.refusals.specs.declared.Answer.the-variants.{Accepted, Refused}
+use Rattle.refusals.specs.Checks.{answer}
 use Rattle.layout.specs.Layout.{demandLength}
 use Rattle.layout.specs.Corridor.{Corridor, cellsOf}
 use Rattle.text_scans.specs.Scans.{begin, feed, ended}
@@ -23,7 +24,7 @@ use Rattle.period.specs.Sharing.{Sharing}
 use Rattle.period.specs.Period.{sheetOf, corridorAfter}
 use Rattle.program_files.specs.Files.{counted}
 use Rattle.program_steps.specs.Turns.{didRow, did, lastRead, didText, linesOf, demandAnswer}
-use Rattle.program_steps.specs.Demand.{How, later, over, unfit, Followed, silent, after, tried, followOf, linesRoom, follow, followEnd, runFits, ifFits, followCall, runOf}
+use Rattle.program_steps.specs.Demand.{How, later, over, refused, Followed, silent, after, tried, followOf, linesRoom, follow, followEnd, followChecks, ifAccepted, followCall, runOf}
 use Rattle.program_steps.specs.Program.{lastRecord, recordsFrom, recordsOn, periodsFrom, sheetText}
 use Rattle.program_steps.specs.Steps.{Follows, next-chunk, call, stop, end}
 use Rattle.program_steps.specs.declared.Run.the-variants.{On}
@@ -33,22 +34,22 @@ use Rattle.program_steps.proofs.Texts.{counted-on, counted-most}
 abbrev pub Within : ℕ → ℕ → ℕ → How → Type 0
 Within k most given (later k′ scan left) = (left ≤ most) × (k′ + left ≤ k + given)
 Within k most given over = Unit {0}
-Within k most given unfit = ⊥
+Within k most given (refused why) = ⊥
 
 within-more : (k most given : ℕ) (how : How) → Within k most given how → Within k (suc most) given how
 within-more k most given (later k′ scan left) h = (omega (arith, h .0), h .1)
 within-more k most given over h = tt
-within-more k most given unfit h = h
+within-more k most given (refused why) h = h
 
 within-read : (k most given : ℕ) (how : How) → Within k most given how → Within k most (suc given) how
 within-read k most given (later k′ scan left) h = (h .0, omega (arith, h .1))
 within-read k most given over h = tt
-within-read k most given unfit h = h
+within-read k most given (refused why) h = h
 
 within-next : (k most given : ℕ) (how : How) → Within (counted k) most given how → Within k most (suc given) how
 within-next k most given (later k′ scan left) h = (h .0, omega (arith, h .1, counted-most k))
 within-next k most given over h = tt
-within-next k most given unfit h = h
+within-next k most given (refused why) h = h
 
 module _ (way : Sharing) where
   abbrev fields : Corridor → ℕ
@@ -58,7 +59,7 @@ module _ (way : Sharing) where
   unfoldable onward : How → List ℕ → Corridor → List ℕ → List ℕ → List ℕ
   onward (later k scan left) row c bytes more = sheetText way k c (recordsOn (fields c) scan row (drop (length bytes - left) bytes ++ more))
   onward over row c bytes more = []
-  onward unfit row c bytes more = []
+  onward (refused why) row c bytes more = []
 
   byte-within : (room k : ℕ) (scan : Scan) (row : List ℕ) (c : Corridor) (sheet : List ℕ) (byte : ℕ) (rest : List ℕ)
       → ((room k : ℕ) (scan : Scan) (row : List ℕ) (c : Corridor) (sheet : List ℕ) → Within k (length rest) (length rest) (follow way room k scan row c sheet rest .how))
@@ -95,23 +96,23 @@ module _ (way : Sharing) where
       → 0 < length bytes → (0 < read) × (read ≤ length bytes)
   unfolding runOf
   call-reads k scan row c sheet out [] written e some = absurd (omega arith)
-  call-reads k scan row c sheet out (byte ∷ rest) written {read} e some = by (runFits c row sheet out) e
+  call-reads k scan row c sheet out (byte ∷ rest) written {read} e some = by (answer (followChecks c row sheet out)) e
     where
       read-some : (how : How) {k′ at : ℕ} {scan′ : Scan} → Within k (length rest) (suc (length rest)) how → On read k′ scan′ at ≡ runOf how (suc (length rest)) written → (0 < read) × (read ≤ suc (length rest))
       read-some (later k″ s left) h e = let same : read ≡ suc (length rest) - left = cc in (omega (arith, h .0), omega (arith, h .0))
       read-some over h e = absurd (let z : _≡_ {A = ℕ} 0 1 = cc in omega arith)
-      read-some unfit h e = absurd h
+      read-some (refused why) h e = absurd h
 
-      by : (fits : Bool) {k′ at : ℕ} {scan′ : Scan} → On read k′ scan′ at ≡ runOf (ifFits fits row c sheet (follow way (length out) k scan row c sheet (byte ∷ rest)) .how) (suc (length rest)) written → (0 < read) × (read ≤ suc (length rest))
-      by true e = read-some (follow way (length out) k scan row c sheet (byte ∷ rest) .how) (byte-within (length out) k scan row c sheet byte rest (λ room k scan row c sheet. follow-within room k scan row c sheet rest)) e
-      by false e = absurd (let z : _≡_ {A = ℕ} 0 1 = cc in omega arith)
+      by : (a : Answer) {k′ at : ℕ} {scan′ : Scan} → On read k′ scan′ at ≡ runOf (ifAccepted a row c sheet (follow way (length out) k scan row c sheet (byte ∷ rest)) .how) (suc (length rest)) written → (0 < read) × (read ≤ suc (length rest))
+      by Accepted e = read-some (follow way (length out) k scan row c sheet (byte ∷ rest) .how) (byte-within (length out) k scan row c sheet byte rest (λ room k scan row c sheet. follow-within room k scan row c sheet rest)) e
+      by (Refused why) e = absurd (let z : _≡_ {A = ℕ} 0 1 = cc in omega arith)
 
   -- with one byte more before them, the same bytes are left
   same-onward : (k byte : ℕ) (rest more : List ℕ) (how : How) (row : List ℕ) (c : Corridor) → Within k (length rest) (length rest) how → onward how row c rest more ≡ onward how row c (byte ∷ rest) more
   unfolding onward
   same-onward k byte rest more (later k′ scan left) row c h = let one : suc (length rest) - left ≡ suc (length rest - left) = omega (arith, h .0) in rw one
   same-onward k byte rest more over row c h = refl
-  same-onward k byte rest more unfit row c h = refl
+  same-onward k byte rest more (refused why) row c h = refl
 
   abbrev written : Followed → List ℕ → List ℕ → List ℕ
   written f bytes more = f .text ++ onward (f .how) (f .row) (f .corridor) bytes more

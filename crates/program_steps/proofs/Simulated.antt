@@ -70,8 +70,7 @@ holds-numbers fields n (text bytes) e = accepted-count fields bytes n (by (held 
   where
     by : (found : Text) → textFile found ≡ Holds n → found ≡ Text.Holds n
     by (Text.Holds m) e = let same : m ≡ n = cc in ap Text.Holds same
-    by (Text.BrokenAt place) e = absurd (let z : _≡_ {A = ℕ} 0 1 = cc in omega arith)
-    by Text.TooLong e = absurd (let z : _≡_ {A = ℕ} 0 1 = cc in omega arith)
+    by (Text.Refused refusal) e = absurd (let z : _≡_ {A = ℕ} 0 1 = cc in omega arith)
 
 -- the state's numbers matter only where there is one record of them
 state-found-same : (file : File) (c d : Corridor) → (file ≡ Holds 1 → c ≡ d) → stateFound file c ≡ stateFound file d

@@ -1,4 +1,4 @@
--- The lists of a run stay the lists of a run: after an accepted state no call of `follow` answers `Unfit`. Assumes nothing.
+-- The lists of a run stay the lists of a run: after an accepted state no call of `follow` refuses them. Assumes nothing.
 use Prim.Native.Nat.{ℕ, _-_}
 use mathlib.Core.Path.{_≡_, refl}
 use mathlib.Core.Bool.{Bool, true, false}

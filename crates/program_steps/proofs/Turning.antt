@@ -122,17 +122,3 @@ goes-onward fields from scan bytes a at {next = next} {to = to} e is = by (readO
     by Broken b past e = absurd (let z : _≡_ {A = ℕ} 0 1 = cc in omega arith)
     by (Record n) Accepted past e = let same : next ≡ n = cc in omega (arith, past n refl, same)
     by (Record n) (Refused refusal) past e = absurd (let z : _≡_ {A = ℕ} 0 1 = cc in omega arith)
-
--- an accepted corridor, with a row and a sheet of their lengths
-pub accepted-fits : (c : Corridor) → answer (stateChecks c) ≡ Accepted → stateLengthsFit c ≡ true
-accepted-fits c e = accepted-passes (lengths (stateLengthsFit c)) (answer (stateNumbers c)) e .0 0 (omega arith)
-
-pub accepted-ready : (c : Corridor) {row sheet : List ℕ} → answer (stateChecks c) ≡ Accepted → length row ≡ demandLength (cellsOf c) → length sheet ≡ sheetLength (cellsOf c)
-    → Ready c row sheet
-accepted-ready c e row-fits sheet-fits =
-    record {
-      fits = accepted-fits c e;
-      row-fits = row-fits;
-      sheet-fits = sheet-fits;
-      accepted = accepted-passes (lengths (stateLengthsFit c)) (answer (stateNumbers c)) e .1;
-    }

@@ -2,15 +2,16 @@
 -- Following stops where the bytes are used up, where the output has no room for another period's lines, and where a record is refused.
 use Prim.Native.Nat.{ℕ, _+_, _-_, _*_}
 use mathlib.Core.Path.{_≡_}
-use mathlib.Core.Bool.{Bool, false, _&&_}
+use mathlib.Core.Bool.{Bool, _&&_}
 use mathlib.Core.List.{List, [], _∷_, _++_}
 use lib.Dec.{leb, eqb}
 use lib.ListN.{length, set}
 use lib.Seq.{sets}
 use Rattle.whole.specs.Search.{pick}
+use Rattle.refusals.specs.declared.Refusal.{Refusal}
 use Rattle.refusals.specs.declared.Answer.{Answer}
 use Rattle.refusals.specs.declared.Answer.the-variants.{Accepted, Refused}
-use Rattle.refusals.specs.Checks.{answer}
+use Rattle.refusals.specs.Checks.{Check, answer, lengths}
 use Rattle.layout.specs.Layout.{demandLength}
 use Rattle.layout.specs.Sheet.{sheetLength}
 use Rattle.layout.specs.Corridor.{Corridor, cellsOf}
@@ -19,7 +20,7 @@ use Rattle.text_scans.specs.declared.Scan.{Scan}
 use Rattle.text_scans.specs.declared.Step.{Step}
 use Rattle.text_scans.specs.declared.Step.the-variants.{More, Field, Complete, Breaks}
 use Rattle.text_records.specs.Reads.{rowAtEnd}
-use Rattle.accept_rows.specs.Acceptance.{stateChecks}
+use Rattle.accept_rows.specs.Acceptance.{stateLengthsFit, stateNumbers}
 use Rattle.period.specs.Sharing.{Sharing}
 use Rattle.period.specs.Period.{sheetOf, corridorAfter}
 use Rattle.program_files.specs.Stops.{broken, refusedIn}
@@ -28,7 +29,7 @@ use Rattle.program_files.specs.declared.Stop.{Stop}
 use Rattle.program_steps.specs.Lines.{lineRoom, stopText}
 use Rattle.program_steps.specs.Turns.{Did, did, lastRead, didText, whenPassed, demandAnswer, linesOf}
 use Rattle.program_steps.specs.declared.Run.{Run}
-use Rattle.program_steps.specs.declared.Run.the-variants.{On, Over, Unfit}
+use Rattle.program_steps.specs.declared.Run.the-variants as Run
 
 -- how following ends
 pub data How : Type 0 where
@@ -37,7 +38,7 @@ pub data How : Type 0 where
   -- the last line is written
   over : How
   -- the lists are not those of a run
-  unfit : How
+  refused : Refusal → How
 
 -- what following comes to: the lists as they are left, and the lines that are written
 pub record Followed : Type 0 where
@@ -72,19 +73,18 @@ followOf Breaks k row c sheet on complete = stopped (broken k k 3) row c sheet
 abbrev pub linesRoom : ℕ → ℕ
 linesRoom n = lineRoom * (n + 1)
 
--- the lists of a run: an accepted table and state, a row and a sheet of their lengths, and room for a period's lines
-unfoldable pub andAccepted : Answer → Bool → Bool
-andAccepted Accepted fits = fits
-andAccepted (Refused refusal) fits = false
+-- a row and a sheet of their lengths, and room for a period's lines
+unfoldable pub followListsFit : ℕ → List ℕ → List ℕ → List ℕ → Bool
+followListsFit n row sheet out = eqb (length row) (demandLength n) && eqb (length sheet) (sheetLength n) && leb (linesRoom n) (length out)
 
-unfoldable pub runFits : Corridor → List ℕ → List ℕ → List ℕ → Bool
-runFits c row sheet out =
-    andAccepted (answer (stateChecks c))
-    (eqb (length row) (demandLength (cellsOf c)) && eqb (length sheet) (sheetLength (cellsOf c)) && leb (linesRoom (cellsOf c)) (length out))
+-- what is asked of the lists of a run: numbers 1 to 5
+unfoldable pub followChecks : Corridor → List ℕ → List ℕ → List ℕ → List Check
+followChecks c row sheet out = lengths (stateLengthsFit c && followListsFit (cellsOf c) row sheet out) ∷ stateNumbers c
 
--- any call: lists that are not those of a run stay as they came
-abbrev pub ifFits : Bool → List ℕ → Corridor → List ℕ → Followed → Followed
-ifFits fits row c sheet followed = pick fits followed (silent unfit row c sheet)
+-- any call: lists that are refused stay as they came
+abbrev pub ifAccepted : Answer → List ℕ → Corridor → List ℕ → Followed → Followed
+ifAccepted Accepted row c sheet followed = followed
+ifAccepted (Refused refusal) row c sheet followed = silent (refused refusal) row c sheet
 
 module _ (way : Sharing) where
   -- from period k on, with room for so many bytes of lines
@@ -118,16 +118,16 @@ module _ (way : Sharing) where
       lastOf (did (lastRead (ended scan (demandLength (cellsOf c)))) (demandAnswer c last)) k last c sheet
 
   abbrev pub followCall : ℕ → Scan → List ℕ → Corridor → List ℕ → List ℕ → List ℕ → Followed
-  followCall k scan row c sheet out bytes = ifFits (runFits c row sheet out) row c sheet (follow (length out) k scan row c sheet bytes)
+  followCall k scan row c sheet out bytes = ifAccepted (answer (followChecks c row sheet out)) row c sheet (follow (length out) k scan row c sheet bytes)
 
   abbrev pub endCall : ℕ → Scan → List ℕ → Corridor → List ℕ → List ℕ → Followed
-  endCall k scan row c sheet out = ifFits (runFits c row sheet out) row c sheet (followEnd k scan row c sheet)
+  endCall k scan row c sheet out = ifAccepted (answer (followChecks c row sheet out)) row c sheet (followEnd k scan row c sheet)
 
 -- the answer, with so many bytes given and so many written
 unfoldable pub runOf : How → ℕ → ℕ → Run
-runOf (later k scan left) given written = On (given - left) k scan written
-runOf over given written = Over written
-runOf unfit given written = Unfit
+runOf (later k scan left) given written = Run.On (given - left) k scan written
+runOf over given written = Run.Over written
+runOf (refused refusal) given written = Run.Refused refusal
 
 -- what a call answers and leaves; its lines go to the start of the output
 pub record Leaves (followed : Followed) (given : ℕ) (out : List ℕ) (run : Run) (rowLeft : List ℕ) (corridorLeft : Corridor) (sheetLeft outLeft : List ℕ) : Type 0 where

@@ -3,6 +3,7 @@ use Prim.Native.Nat.{ℕ, _+_}
 use mathlib.Core.List.{List, [], _∷_, _++_}
 use lib.ListN.{set}
 use Rattle.whole.specs.Lists.{zeros}
+use Rattle.refusals.specs.Refusals.{placeOf}
 use Rattle.refusals.specs.declared.Answer.{Answer}
 use Rattle.refusals.specs.declared.Answer.the-variants.{Accepted, Refused}
 use Rattle.layout.specs.Layout.{WIDTH, stateLength, demandLength}
@@ -35,8 +36,7 @@ pub data Given : Type 0 where
 -- what a file of records of so many fields is found to be, and its numbers
 abbrev pub textFile : Text → File
 textFile (Text.Holds n) = Holds n
-textFile (Text.BrokenAt place) = BrokenAt place
-textFile Text.TooLong = Lost
+textFile (Text.Refused refusal) = BrokenAt (placeOf refusal)
 
 abbrev pub fileGiven : ℕ → Given → File
 fileGiven fields missing = Lost

@@ -1,12 +1,13 @@
 // The demand: its records followed through a chunk, a period each, until the chunk is used up or the output is full.
 ghost use mathlib.Core.Path.{_≡_};
-ghost use Prim.Native.Nat.{_-_, _≤_};
+ghost use Prim.Native.Nat.{_-_};
 ghost use lib.Dec.{leb};
 ghost use lib.ListN.{length};
-ghost use Rattle.layout.specs.Layout.{MOST};
+ghost use Rattle.refusals.specs.Checks.{answer};
+ghost use Rattle.layout.specs.Layout.{Listed};
 ghost use Rattle.layout.specs.Corridor.{corridorOf};
 ghost use Rattle.period.specs.Sharing.{asymmetric};
-ghost use Rattle.program_steps.specs.Demand.{linesRoom, follow, followEnd, runFits, followCall, endCall, Leaves};
+ghost use Rattle.program_steps.specs.Demand.{linesRoom, followListsFit, followChecks, follow, followEnd, followCall, endCall, Leaves};
 ghost use Rattle.program_steps.specs.Private.{ReadyAt};
 use crate::Run;
 use crate::Turn;
@@ -20,33 +21,35 @@ use layout::demand_length;
 use layout::sheet::sheet_length;
 use program_files::counted;
 use refusals::Answer;
+use refusals::Refusal;
 use text_scans::Scan;
 
 // Whether the lines of a period of n cells have room after a position.
 fn has_room(size: usize, at: usize, n: usize) -> bool
-    requires { ⌜ n ≤ MOST ⌝ }
     ensures { λ r. ⌜ r ≡ leb (linesRoom n) (size - at) ⌝ }
 {
     if size < at {
         return false;
     }
-    LINE_ROOM * (n + 1) <= size - at
+    n < (size - at) / LINE_ROOM
 }
 
-// Whether the lists are those of a run.
-fn run_fits(table: &[u32], state: &[u32], row: &[u32], sheet: &[u32], out: &[u8]) -> bool
-    ensures { λ r. ⌜ r ≡ runFits (corridorOf (now (table .entry)) (now (state .entry))) (now (row .entry)) (now (sheet .entry)) (now (out .entry)) ⌝ }
+// Number 1 of a row, a sheet and an output under a table of n cells.
+fn lists_fit(n: usize, row: &[u32], sheet: &[u32], out: &[u8]) -> bool
+    requires { ⌜ Listed n ⌝ }
+    ensures { λ r. ⌜ r ≡ followListsFit n (now (row .entry)) (now (sheet .entry)) (now (out .entry)) ⌝ }
 {
-    let accepted = accept_rows::accept_state(table, state);
-    let n = cells(table);
-    match accepted {
-        Answer::Accepted => {
-            (row.len() == demand_length(n))
-                & (sheet.len() == sheet_length(n))
-                & has_room(out.len(), 0, n)
-        }
-        Answer::Refused(_) => false,
+    (row.len() == demand_length(n)) & (sheet.len() == sheet_length(n)) & has_room(out.len(), 0, n)
+}
+
+// Whether the lists are those of a run: numbers 1 to 5.
+fn accept_lists(table: &[u32], state: &[u32], row: &[u32], sheet: &[u32], out: &[u8]) -> Answer
+    ensures { λ r. ⌜ r ≡ answer (followChecks (corridorOf (now (table .entry)) (now (state .entry))) (now (row .entry)) (now (sheet .entry)) (now (out .entry))) ⌝ }
+{
+    if !lists_fit(cells(table), row, sheet, out) {
+        return Answer::Refused(Refusal::Length);
     }
+    accept_rows::accept_state(table, state)
 }
 
 // The demand goes on later.
@@ -108,8 +111,9 @@ pub fn follow(
 ) -> Run
     ensures { λ r. ⌜ Leaves (followCall asymmetric k scan (now (row .entry)) (corridorOf (now (table .entry)) (now (state .entry))) (now (sheet .entry)) (now (out .entry)) (now (chunk .entry))) (length (now (chunk .entry))) (now (out .entry)) r (now (row .exit)) (corridorOf (now (table .entry)) (now (state .exit))) (now (sheet .exit)) (now (out .exit)) ⌝ }
 {
-    if !run_fits(table, state, row, sheet, out) {
-        return Run::Unfit;
+    let found = accept_lists(table, state, row, sheet, out);
+    if let Answer::Refused(refusal) = found {
+        return Run::Refused(refusal);
     }
     follow_run(chunk, k, scan, table, state, row, sheet, out)
 }
@@ -144,8 +148,9 @@ pub fn end(
 ) -> Run
     ensures { λ r. ⌜ Leaves (endCall asymmetric k scan (now (row .entry)) (corridorOf (now (table .entry)) (now (state .entry))) (now (sheet .entry)) (now (out .entry))) 0 (now (out .entry)) r (now (row .exit)) (corridorOf (now (table .entry)) (now (state .exit))) (now (sheet .exit)) (now (out .exit)) ⌝ }
 {
-    if !run_fits(table, state, row, sheet, out) {
-        return Run::Unfit;
+    let found = accept_lists(table, state, row, sheet, out);
+    if let Answer::Refused(refusal) = found {
+        return Run::Refused(refusal);
     }
     end_run(k, scan, table, state, row, sheet, out)
 }

@@ -5,6 +5,7 @@ pub mod demand;
 pub mod lines;
 mod turns;
 
+use refusals::Refusal;
 use text_scans::Scan;
 
 // What reading on in the demand comes to.
@@ -29,6 +30,6 @@ pub enum Run {
     },
     // The program is over: so many bytes are written.
     Over(usize),
-    // The lists are not those of a run, and nothing is changed.
-    Unfit,
+    // The lists are not those of a run, by number 1 to 5, and nothing is changed.
+    Refused(Refusal),
 }

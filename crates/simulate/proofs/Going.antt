@@ -1,14 +1,17 @@
 -- How the demand goes on, from one read to the next. Assumes nothing.
 use Prim.Native.Nat.{ℕ}
 use mathlib.Core.Path.{_≡_, refl}
-use mathlib.Core.Bool.{Bool, true, false}
 use mathlib.Core.List.{List, [], _∷_, _++_, append-assoc}
 use lib.ListN.{length}
+use Rattle.refusals.specs.declared.Refusal.{Refusal}
+use Rattle.refusals.specs.declared.Answer.{Answer}
+use Rattle.refusals.specs.declared.Answer.the-variants as Answer
+use Rattle.refusals.specs.Checks.{answer}
 use Rattle.layout.specs.Corridor.{Corridor}
 use Rattle.text_scans.specs.Scans.{begin}
 use Rattle.text_scans.specs.declared.Scan.{Scan}
 use Rattle.period.specs.Sharing.{Sharing}
-use Rattle.program_steps.specs.Demand.{How, later, over, unfit, Followed, follow, followEnd, runFits, ifFits, followCall, endCall, runOf, Leaves}
+use Rattle.program_steps.specs.Demand.{How, later, over, refused, Followed, follow, followEnd, followChecks, ifAccepted, followCall, endCall, runOf, Leaves}
 use Rattle.program_steps.specs.Private.{Leads}
 use Rattle.program_steps.specs.declared.Run.{Run}
 use Rattle.program_steps.specs.declared.Run.the-variants as Run
@@ -16,13 +19,13 @@ use Rattle.program_steps.proofs.Sheets.{Within, follow-within}
 use Rattle.program_steps.proofs.Leading.{leads-here, next-chunk-leads}
 use Rattle.simulate.specs.Private.{LastCall, refuses, ends, unfits, Closes, Goes, GoesOn}
 use Rattle.simulate.specs.declared.Next.{Next}
-use Rattle.simulate.specs.declared.Next.the-variants.{On, Over, Lost, Shut, Unfit}
+use Rattle.simulate.specs.declared.Next.the-variants.{On, Over, Lost, Shut, Refused}
 
--- what the program answers to what a call answers, with `on` for a call that goes on
-abbrev pub nextOf : Next → Run → Next
-nextOf on (Run.On read k scan at) = on
-nextOf on (Run.Over at) = Over
-nextOf on Run.Unfit = Unfit
+-- what the program answers to what a call answers; nothing is said of one that goes on
+abbrev pub nextOf : Run → Next
+nextOf (Run.On read k scan at) = Shut
+nextOf (Run.Over at) = Over
+nextOf (Run.Refused refusal) = Refused refusal
 
 module _ (way : Sharing) (k : ℕ) (scan : Scan) (row : List ℕ) (c : Corridor) (sheet left : List ℕ) where
   pub leads-then : (pieces pieces′ : List (List ℕ)) {k₁ k₂ : ℕ} {scan₁ scan₂ : Scan} {row₁ : List ℕ} {c₁ : Corridor} {sheet₁ left₁ row₂ : List ℕ} {c₂ : Corridor} {sheet₂ left₂ : List ℕ}
@@ -56,40 +59,40 @@ module _ (way : Sharing) (k : ℕ) (scan : Scan) (row : List ℕ) (c : Corridor)
         writes = so .writes;
       }
 
-  -- a call of `follow`; nothing is said of one that goes on
+  -- a call of `follow`
   pub call-closes : {k₁ : ℕ} {scan₁ : Scan} {row₁ : List ℕ} {c₁ : Corridor} {sheet₁ left₁ : List ℕ} → Leads way k scan row c sheet left [] k₁ scan₁ row₁ c₁ sheet₁ left₁
       → (out piece : List ℕ) → piece ≡ left₁ → {given run : Run} {row′ : List ℕ} {c′ : Corridor} {sheet′ out′ : List ℕ}
       → Leaves (followCall way k₁ scan₁ row₁ c₁ sheet₁ out piece) (length piece) out given row′ c′ sheet′ out′ → given ≡ run
-      → Goes (nextOf Shut run) way k scan row c sheet left [] row′ c′ sheet′ out′
+      → Goes (nextOf run) way k scan row c sheet left [] row′ c′ sheet′ out′
   unfolding runOf
   call-closes {k₁} {scan₁} {row₁} {c₁} {sheet₁} {left₁} leads out piece same {run = run} {row′} {c′} {sheet′} {out′} leaves told =
-      by (runFits c₁ row₁ sheet₁ out) refl (rw (same, told) at leaves)
+      by (answer (followChecks c₁ row₁ sheet₁ out)) refl (rw (same, told) at leaves)
     where
       f : Followed
       f = follow way (length out) k₁ scan₁ row₁ c₁ sheet₁ left₁
 
-      closed : (how : How) → f .how ≡ how → Within k₁ (length left₁) (length left₁) how → Leaves f (length left₁) out run row′ c′ sheet′ out′ → run ≡ runOf how (length left₁) (length (f .text)) → Goes (nextOf Shut run) way k scan row c sheet left [] row′ c′ sheet′ out′
+      closed : (how : How) → f .how ≡ how → Within k₁ (length left₁) (length left₁) how → Leaves f (length left₁) out run row′ c′ sheet′ out′ → run ≡ runOf how (length left₁) (length (f .text)) → Goes (nextOf run) way k scan row c sheet left [] row′ c′ sheet′ out′
       closed (later k″ scan″ rest) is within so e = rw e tt
       closed over is within so e = rw e (last-closes leads (refuses (length out) refl is) so)
-      closed unfit is within so e = absurd within
+      closed (refused refusal) is within so e = absurd within
 
-      by : (fits : Bool) → runFits c₁ row₁ sheet₁ out ≡ fits → Leaves (ifFits fits row₁ c₁ sheet₁ f) (length left₁) out run row′ c′ sheet′ out′ → Goes (nextOf Shut run) way k scan row c sheet left [] row′ c′ sheet′ out′
-      by true is so = closed (f .how) refl (follow-within way (length out) k₁ scan₁ row₁ c₁ sheet₁ left₁) so (so .answered)
-      by false is so = rw (so .answered) (last-closes leads (unfits is refl) so)
+      by : (a : Answer) → answer (followChecks c₁ row₁ sheet₁ out) ≡ a → Leaves (ifAccepted a row₁ c₁ sheet₁ f) (length left₁) out run row′ c′ sheet′ out′ → Goes (nextOf run) way k scan row c sheet left [] row′ c′ sheet′ out′
+      by Answer.Accepted is so = closed (f .how) refl (follow-within way (length out) k₁ scan₁ row₁ c₁ sheet₁ left₁) so (so .answered)
+      by (Answer.Refused refusal) is so = rw (so .answered) (last-closes leads (unfits refusal is refl) so)
 
 module _ (way : Sharing) (k : ℕ) (scan : Scan) (row : List ℕ) (c : Corridor) (sheet : List ℕ) where
   -- the demand's end; its call never goes on
   pub end-closes : (out : List ℕ) {given run : Run} {row′ : List ℕ} {c′ : Corridor} {sheet′ out′ : List ℕ} → Leaves (endCall way k scan row c sheet out) 0 out given row′ c′ sheet′ out′ → given ≡ run
-      → Goes (nextOf Unfit run) way k scan row c sheet [] [] row′ c′ sheet′ out′
+      → Goes (nextOf run) way k scan row c sheet [] [] row′ c′ sheet′ out′
   unfolding runOf followEnd
-  end-closes out {run = run} {row′} {c′} {sheet′} {out′} leaves told = by (runFits c row sheet out) refl (rw told at leaves)
+  end-closes out {run = run} {row′} {c′} {sheet′} {out′} leaves told = by (answer (followChecks c row sheet out)) refl (rw told at leaves)
     where
       here : Leads way k scan row c sheet [] [] k scan row c sheet []
       here = leads-here way k scan row c sheet []
 
-      by : (fits : Bool) → runFits c row sheet out ≡ fits → Leaves (ifFits fits row c sheet (followEnd way k scan row c sheet)) 0 out run row′ c′ sheet′ out′ → Goes (nextOf Unfit run) way k scan row c sheet [] [] row′ c′ sheet′ out′
-      by true is so = rw (so .answered) (last-closes way k scan row c sheet [] here (ends refl refl) so)
-      by false is so = rw (so .answered) (last-closes way k scan row c sheet [] here (unfits is refl) so)
+      by : (a : Answer) → answer (followChecks c row sheet out) ≡ a → Leaves (ifAccepted a row c sheet (followEnd way k scan row c sheet)) 0 out run row′ c′ sheet′ out′ → Goes (nextOf run) way k scan row c sheet [] [] row′ c′ sheet′ out′
+      by Answer.Accepted is so = rw (so .answered) (last-closes way k scan row c sheet [] here (ends refl refl) so)
+      by (Answer.Refused refusal) is so = rw (so .answered) (last-closes way k scan row c sheet [] here (unfits refusal is refl) so)
 
 module _ {way : Sharing} {k : ℕ} {scan : Scan} {row : List ℕ} {c : Corridor} {sheet : List ℕ} where
   -- the same last call, led to from elsewhere
@@ -119,7 +122,7 @@ module _ {way : Sharing} {k : ℕ} {scan : Scan} {row : List ℕ} {c : Corridor}
   chunk-goes Over chunk goes = record { pieces = chunk ∷ []; goes = led-from goes (next-chunk-leads way k scan row c sheet chunk (goes .leads)) }
   chunk-goes Lost chunk goes = record { pieces = []; goes = goes }
   chunk-goes Shut chunk goes = record { pieces = []; goes = tt }
-  chunk-goes Unfit chunk goes = record { pieces = chunk ∷ []; goes = led-from goes (next-chunk-leads way k scan row c sheet chunk (goes .leads)) }
+  chunk-goes (Refused refusal) chunk goes = record { pieces = chunk ∷ []; goes = led-from goes (next-chunk-leads way k scan row c sheet chunk (goes .leads)) }
 
 -- the reads from period 1 on
 module _ (way : Sharing) (row : List ℕ) (c : Corridor) (sheet : List ℕ) where
@@ -152,7 +155,7 @@ module _ (way : Sharing) (row : List ℕ) (c : Corridor) (sheet : List ℕ) wher
         let then : GoesOn Over way k scan row₁ c₁ sheet₁ row′ c′ sheet′ out′ = rw told at goes in
         record { pieces = so .pieces ++ then .pieces; goes = closed-then (then .pieces) (then .goes) }
 
-    pub unfits-then : {next : Next} → GoesOn next way k scan row₁ c₁ sheet₁ row′ c′ sheet′ out′ → next ≡ Unfit → GoesOn Unfit way 1 begin row c sheet row′ c′ sheet′ out′
-    unfits-then goes told =
-        let then : GoesOn Unfit way k scan row₁ c₁ sheet₁ row′ c′ sheet′ out′ = rw told at goes in
+    pub unfits-then : {next : Next} {refusal : Refusal} → GoesOn next way k scan row₁ c₁ sheet₁ row′ c′ sheet′ out′ → next ≡ Refused refusal → GoesOn (Refused refusal) way 1 begin row c sheet row′ c′ sheet′ out′
+    unfits-then {refusal = refusal} goes told =
+        let then : GoesOn (Refused refusal) way k scan row₁ c₁ sheet₁ row′ c′ sheet′ out′ = rw told at goes in
         record { pieces = so .pieces ++ then .pieces; goes = closed-then (then .pieces) (then .goes) }

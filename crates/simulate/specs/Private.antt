@@ -3,9 +3,11 @@
 -- from what the last one left.
 use Prim.Native.Nat.{ℕ}
 use mathlib.Core.Path.{_≡_}
-use mathlib.Core.Bool.{false}
 use mathlib.Core.List.{List, []}
 use lib.Seq.{sets}
+use Rattle.refusals.specs.declared.Refusal.{Refusal}
+use Rattle.refusals.specs.declared.Answer.the-variants as Answer
+use Rattle.refusals.specs.Checks.{answer}
 use Rattle.layout.specs.Corridor.{Corridor}
 use Rattle.text_scans.specs.declared.Scan.{Scan}
 use Rattle.period.specs.Sharing.{Sharing}
@@ -13,13 +15,13 @@ use Rattle.program_files.specs.Files.{fileOn}
 use Rattle.program_files.specs.declared.Reading.{Reading}
 use Rattle.program_files.specs.declared.File.{File}
 use Rattle.program_files.specs.declared.File.the-variants as File
-use Rattle.program_steps.specs.Demand.{over, unfit, Followed, silent, follow, followEnd, runFits}
+use Rattle.program_steps.specs.Demand.{over, refused, Followed, silent, followChecks, follow, followEnd}
 use Rattle.program_steps.specs.Steps.{chunks, readFile}
 use Rattle.program_steps.specs.Private.{Leads}
 use Rattle.simulate.specs.declared.Got.{Got}
 use Rattle.simulate.specs.declared.Got.the-variants as Got
 use Rattle.simulate.specs.declared.Next.{Next}
-use Rattle.simulate.specs.declared.Next.the-variants.{On, Over, Lost, Shut, Unfit}
+use Rattle.simulate.specs.declared.Next.the-variants.{On, Over, Lost, Shut, Refused}
 
 -- one read of a file of records: a chunk more, or nothing
 pub record ChunkRead (fields : ℕ) (so : Reading) (list : List ℕ) (so′ : Reading) (list′ : List ℕ) : Type 0 where
@@ -47,7 +49,8 @@ FileRead File.Lost fields list list′ = Unit {0}
 pub data LastCall (way : Sharing) (k : ℕ) (scan : Scan) (row : List ℕ) (c : Corridor) (sheet left out : List ℕ) (f : Followed) : Next → Type 0 where
   refuses : (room : ℕ) → f ≡ follow way room k scan row c sheet left → f .how ≡ over → LastCall way k scan row c sheet left out f Over
   ends : left ≡ [] → f ≡ followEnd way k scan row c sheet → LastCall way k scan row c sheet left out f Over
-  unfits : runFits c row sheet out ≡ false → f ≡ silent unfit row c sheet → LastCall way k scan row c sheet left out f Unfit
+  unfits : (refusal : Refusal) → answer (followChecks c row sheet out) ≡ Answer.Refused refusal → f ≡ silent (refused refusal) row c sheet
+      → LastCall way k scan row c sheet left out f (Refused refusal)
 
 -- the calls lead to the last one; its lines stand at the start of the output
 pub record Closes (next : Next) (way : Sharing) (k : ℕ) (scan : Scan) (row : List ℕ) (c : Corridor) (sheet left : List ℕ) (pieces : List (List ℕ)) (row′ : List ℕ) (c′ : Corridor) (sheet′ out′ : List ℕ) : Type 0 where
@@ -72,7 +75,7 @@ Goes (On k′ scan′) way k scan row c sheet left pieces row′ c′ sheet′ o
 Goes Over way k scan row c sheet left pieces row′ c′ sheet′ out′ = Closes Over way k scan row c sheet left pieces row′ c′ sheet′ out′
 Goes Lost way k scan row c sheet left pieces row′ c′ sheet′ out′ = (row′ ≡ row) × (c′ ≡ c) × (sheet′ ≡ sheet)
 Goes Shut way k scan row c sheet left pieces row′ c′ sheet′ out′ = Unit {0}
-Goes Unfit way k scan row c sheet left pieces row′ c′ sheet′ out′ = Closes Unfit way k scan row c sheet left pieces row′ c′ sheet′ out′
+Goes (Refused refusal) way k scan row c sheet left pieces row′ c′ sheet′ out′ = Closes (Refused refusal) way k scan row c sheet left pieces row′ c′ sheet′ out′
 
 -- and over the chunks that reads bring
 pub record GoesOn (next : Next) (way : Sharing) (k : ℕ) (scan : Scan) (row : List ℕ) (c : Corridor) (sheet row′ : List ℕ) (c′ : Corridor) (sheet′ out′ : List ℕ) : Type 0 where

@@ -26,6 +26,7 @@ use program_files::Stop;
 use program_steps::Run;
 use program_steps::demand;
 use program_steps::lines;
+use refusals::Refusal;
 use text_digits::Written;
 use text_scans::Scan;
 
@@ -47,7 +48,7 @@ pub enum Next {
     // The output can't be written on.
     Shut,
     // The lists are not those of a run, which never comes to be.
-    Unfit,
+    Refused(Refusal),
 }
 
 // More than the lines of a period of 512 cells take.
@@ -179,7 +180,7 @@ fn follow_chunk(
                 scan = next;
             }
             Run::Over(at) => return pass_last(out, at),
-            Run::Unfit => return Next::Unfit,
+            Run::Refused(refusal) => return Next::Refused(refusal),
         }
     }
     Next::On { k, scan }
@@ -205,8 +206,8 @@ fn end_demand(
             k: _,
             scan: _,
             at: _,
-        } => Next::Unfit,
-        Run::Unfit => Next::Unfit,
+        } => Next::Shut,
+        Run::Refused(refusal) => Next::Refused(refusal),
     }
 }
 
@@ -267,8 +268,8 @@ fn run_demand(
             Next::Shut => {
                 return Next::Shut;
             }
-            Next::Unfit => {
-                return Next::Unfit;
+            Next::Refused(refusal) => {
+                return Next::Refused(refusal);
             }
         }
     }
@@ -280,7 +281,7 @@ fn end_run(next: Next, out: &mut [u8]) {
     match next {
         Next::On { k, scan: _ } => halt(program_files::demand_lost(k), out),
         Next::Lost => halt(program_files::demand_lost(0), out),
-        Next::Unfit => halt(program_files::demand_lost(0), out),
+        Next::Refused(refusal) => halt(program_files::refused_in(0, refusal), out),
         Next::Over => {}
         Next::Shut => {}
     }

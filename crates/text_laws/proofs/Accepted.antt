@@ -13,7 +13,7 @@ use Rattle.text_laws.proofs.ReadBack.{one-more, together-one-more, no-t
 use Rattle.text_records.specs.Texts.{textOf, Small, none, and, Fits, AllFit, none-left, and-then, TextOf, closed, left-open, together}
 use Rattle.text_scans.specs.Scans.{LARGEST, LONGEST, begin, feed, ended}
 use Rattle.text_scans.specs.Scans as scans
-use Rattle.text_records.specs.Reads.{textAtEnd, textFrom, textOn, numbersFrom, numbersOn, held, numbers}
+use Rattle.text_records.specs.Reads.{brokenAt, textAtEnd, textFrom, textOn, numbersFrom, numbersOn, held, numbers}
 use Rattle.text_scans.specs.declared.Scan.{Scan}
 use Rattle.text_scans.specs.declared.Scan.the-variants.{Start, Number, Return}
 use Rattle.text_scans.specs.declared.Step.{Step}
@@ -21,7 +21,7 @@ use Rattle.text_scans.specs.declared.Step.the-variants.{More, Field, Complete, 
 use Rattle.text_scans.specs.declared.End.{End}
 use Rattle.text_scans.specs.declared.End.the-variants.{Nothing, Last, Cut}
 use Rattle.text_records.specs.declared.Text.{Text}
-use Rattle.text_records.specs.declared.Text.the-variants.{Holds, BrokenAt}
+use Rattle.text_records.specs.declared.Text.the-variants.{Holds}
 
 -- numbers that each have a comma after them
 unfoldable pub startText : List ℕ → List ℕ
@@ -122,7 +122,7 @@ one-byte-on so breaks = tt
 pub data Tail (fields n : ℕ) (rest : List ℕ) (answer : Text) (list : List ℕ) : Type 0 where
   nothing : rest ≡ [] → answer ≡ Holds n → list ≡ [] → Tail fields n rest answer list
   last : (row : List ℕ) → Fits fields row → rest ≡ recordText row → answer ≡ Holds (n + 1) → list ≡ row → Tail fields n rest answer list
-  broken : held fields rest ≡ BrokenAt 1 → answer ≡ BrokenAt (n + 1) → Tail fields n rest answer list
+  broken : held fields rest ≡ brokenAt 1 → answer ≡ brokenAt (n + 1) → Tail fields n rest answer list
 
 pub record Parts (fields n : ℕ) (text : List ℕ) (answer : Text) (list : List ℕ) : Type 0 where
   pub rows : List (List ℕ)
@@ -147,11 +147,11 @@ unfolding textOf together
 no-rows {fields} {n} tail =
     record { rows = []; rest = _; left = _; fit = none-left; is = refl; read = refl; tail = tail (n + 0) (omega arith) }
 
-breaks-here : {fields : ℕ} (n : ℕ) (pre bytes list : List ℕ) (s : Scan) → Leads fields pre s → ((k : ℕ) → textOn fields k s bytes ≡ BrokenAt (k + 1))
+breaks-here : {fields : ℕ} (n : ℕ) (pre bytes list : List ℕ) (s : Scan) → Leads fields pre s → ((k : ℕ) → textOn fields k s bytes ≡ brokenAt (k + 1))
     → Parts fields n (pre ++ bytes) (textOn fields n s bytes) list
 unfolding held
 breaks-here n pre bytes list s leads stops =
-    no-rows λ k e. broken (leads 0 bytes ∙ stops 0) (stops n ∙ ap (λ (m : ℕ). BrokenAt (m + 1)) e)
+    no-rows λ k e. broken (leads 0 bytes ∙ stops 0) (stops n ∙ ap (λ (m : ℕ). brokenAt (m + 1)) e)
 
 at-end : (fields : ℕ) → Told fields []
 unfolding textOn numbersOn numbersFrom ended feed scans.atStart startText
@@ -170,7 +170,7 @@ at-end fields n (Number f y v) pre ns (in-number is count size short fits small)
         (no-rows λ k same. last (ns ++ v ∷ []) (closes is count size short fits small is-last) (is ∙ sym (record-and ns v)) (ap (λ (m : ℕ). Holds (m + 1)) same) refl)
     by step breaks e = stops (breaks-here n pre [] (ns ++ []) (Number f y v) leads (λ k. rw e))
       where
-        stops : Parts fields n (pre ++ []) (textOn fields n (Number f y v) []) (ns ++ []) → Parts fields n (pre ++ []) (BrokenAt (n + 1)) (ns ++ [])
+        stops : Parts fields n (pre ++ []) (textOn fields n (Number f y v) []) (ns ++ []) → Parts fields n (pre ++ []) (brokenAt (n + 1)) (ns ++ [])
         stops parts = rw e at parts
 at-end fields n Return pre row (at-return is fits) leads = breaks-here n pre [] _ Return leads λ k. refl
 
@@ -236,7 +236,7 @@ fit-and (first ∷ rows) (and-then fit rest) fits = and-then fit (fit-and rows r
 same-count : {n m : ℕ} → Holds n ≡ Holds m → n ≡ m
 same-count e = cc
 
-not-broken : {n m : ℕ} → Holds n ≡ BrokenAt m → ⊥
+not-broken : {n m : ℕ} → Holds n ≡ brokenAt m → ⊥
 not-broken e = let z : _≡_ {A = ℕ} 0 1 = cc in omega arith
 
 pub accepted : (fields : ℕ) (text : List ℕ) (n : ℕ) → held fields text ≡ Holds n → IsText fields text n
@@ -279,28 +279,28 @@ pub record IsBroken (fields : ℕ) (text : List ℕ) (place : ℕ) : Type 0 wher
   pub not-last : (row : List ℕ) → Fits fields row → rest ≡ recordText row → ⊥
   pub not-first : (row more : List ℕ) → Fits fields row → rest ≡ lineText row ++ more → ⊥
 
-same-place : {n m : ℕ} → BrokenAt n ≡ BrokenAt m → n ≡ m
+same-place : {n m : ℕ} → brokenAt n ≡ brokenAt m → n ≡ m
 same-place e = cc
 
-breaks-later : (fields n place : ℕ) (s : Scan) (bytes : List ℕ) → textOn fields n s bytes ≡ BrokenAt place → n < place
+breaks-later : (fields n place : ℕ) (s : Scan) (bytes : List ℕ) → textOn fields n s bytes ≡ brokenAt place → n < place
 unfolding textOn textFrom
 breaks-later fields n place s [] e = by (ended s fields) e
   where
-    by : (end : End) → textAtEnd end n ≡ BrokenAt place → n < place
+    by : (end : End) → textAtEnd end n ≡ brokenAt place → n < place
     by Nothing e = absurd (not-broken e)
     by Last e = absurd (not-broken e)
     by Cut e = omega (arith, same-place e)
 breaks-later fields n place s (b ∷ bytes) e =
     by (feed s b fields) (λ next h. breaks-later fields n place next bytes h) (λ h. breaks-later fields (n + 1) place begin bytes h) e
   where
-    by : (step : Step) → ((next : Scan) → textOn fields n next bytes ≡ BrokenAt place → n < place) → (textOn fields (n + 1) begin bytes ≡ BrokenAt place → n + 1 < place)
-        → textFrom step (λ next. textOn fields n next bytes) (textOn fields (n + 1) begin bytes) n ≡ BrokenAt place → n < place
+    by : (step : Step) → ((next : Scan) → textOn fields n next bytes ≡ brokenAt place → n < place) → (textOn fields (n + 1) begin bytes ≡ brokenAt place → n + 1 < place)
+        → textFrom step (λ next. textOn fields n next bytes) (textOn fields (n + 1) begin bytes) n ≡ brokenAt place → n < place
     by (More t) on another e = on t e
     by (Field f v t) on another e = on t e
     by Complete on another e = omega (arith, another e)
     by Breaks on another e = omega (arith, same-place e)
 
-pub refused : (fields : ℕ) (text : List ℕ) (place : ℕ) → held fields text ≡ BrokenAt place → IsBroken fields text place
+pub refused : (fields : ℕ) (text : List ℕ) (place : ℕ) → held fields text ≡ brokenAt place → IsBroken fields text place
 unfolding held
 refused fields text place breaks-at = by (every-text fields text)
   where

@@ -5,14 +5,13 @@ use mathlib.Core.List.{List, [], _∷_, _++_}
 use native.Mathlib.Omega.{arith}
 use lib.ListN.{length, set, drop}
 use Rattle.text_scans.specs.Scans.{begin, feed, ended}
-use Rattle.text_records.specs.Reads.{readFrom, readOn, rowFrom, rowOn, textAtEnd, textFrom, textOn}
+use Rattle.text_records.specs.Reads.{brokenAt, readFrom, readOn, rowFrom, rowOn, textAtEnd, textFrom, textOn}
 use Rattle.text_scans.specs.declared.Scan.{Scan}
 use Rattle.text_scans.specs.declared.Step.{Step}
 use Rattle.text_scans.specs.declared.Step.the-variants.{More, Field, Complete, Breaks}
 use Rattle.text_records.specs.declared.Read.{Read}
 use Rattle.text_records.specs.declared.Read.the-variants.{Record, Part, Broken}
 use Rattle.text_records.specs.declared.Text.{Text}
-use Rattle.text_records.specs.declared.Text.the-variants.{BrokenAt}
 
 -- a chunk that is used up is followed by the next, from where the reading stands; a record that is complete or broken is not
 unfoldable pub nextRead : ℕ → ℕ → Read → List ℕ → Read
@@ -96,7 +95,7 @@ progress fields (stopped place) (byte ∷ rest) = stopped place
 -- what the text is found to be if it ends there
 unfoldable pub foundAt : ℕ → Progress → Text
 foundAt fields (reading n scan) = textAtEnd (ended scan fields) n
-foundAt fields (stopped place) = BrokenAt place
+foundAt fields (stopped place) = brokenAt place
 
 pub stays-stopped : (fields place : ℕ) (bytes : List ℕ) → progress fields (stopped place) bytes ≡ stopped place
 unfolding progress

@@ -9,7 +9,7 @@ use lib.ListN.{length, getD, drop, set, length-set, drop-of-length-le}
 use lib.Seq.{sets}
 use Rattle.text_digits.proofs.Stores.{rest-of}
 use Rattle.text_scans.specs.Scans.{begin, atStart, feed, untouched, ended}
-use Rattle.text_records.specs.Reads.{readFrom, readOn, rowFrom, rowOn, textAtEnd, textFrom, textOn, numbersFrom, numbersOn, held, numbers}
+use Rattle.text_records.specs.Reads.{brokenAt, readFrom, readOn, rowFrom, rowOn, textAtEnd, textFrom, textOn, numbersFrom, numbersOn, held, numbers}
 use Rattle.text_scans.specs.declared.Scan.{Scan}
 use Rattle.text_scans.specs.declared.Scan.the-variants.{Start, Number, Return}
 use Rattle.text_scans.specs.declared.Step.{Step}
@@ -17,7 +17,6 @@ use Rattle.text_scans.specs.declared.Step.the-variants.{More, Field, Complete, 
 use Rattle.text_scans.specs.declared.End.{End}
 use Rattle.text_scans.specs.declared.End.the-variants.{Nothing}
 use Rattle.text_records.specs.declared.Read.the-variants.{Record, Part, Broken}
-use Rattle.text_records.specs.declared.Text.the-variants.{BrokenAt}
 
 -- a step is what the byte at an index does
 abbrev pub Does : List ℕ → ℕ → Scan → ℕ → Step → Type 0
@@ -133,7 +132,7 @@ module _ {fields : ℕ} {text : List ℕ} {scan : Scan} {records i : ℕ} where
       })
 
   pub check-breaks : {step : Step} → Checking fields text scan records i → i < length text → Does text i scan fields step → step ≡ Breaks
-      → BrokenAt (records + 1) ≡ held fields text
+      → brokenAt (records + 1) ≡ held fields text
   unfolding textFrom
   check-breaks {step} here h e is = rw is at (check-byte here h step e)
 

@@ -5,6 +5,9 @@ use lib.Dec.{leb, eqb}
 use lib.ListN.{set}
 use lib.Seq.{sets}
 use Rattle.whole.specs.Search.{pick}
+use Rattle.refusals.specs.declared.Refusal.{Refusal}
+use Rattle.refusals.specs.declared.Refusal.the-variants.{Length}
+use Rattle.refusals.specs.Refusals.{placeOf}
 use Rattle.text_digits.specs.Lines.{CR}
 use Rattle.text_scans.specs.Scans.{begin, feed, ended}
 use Rattle.text_scans.specs.declared.Scan.{Scan}
@@ -15,7 +18,7 @@ use Rattle.text_scans.specs.declared.End.the-variants.{Nothing, Last, Cut}
 use Rattle.text_records.specs.declared.Read.{Read}
 use Rattle.text_records.specs.declared.Read.the-variants.{Record, Part, Broken}
 use Rattle.text_records.specs.declared.Text.{Text}
-use Rattle.text_records.specs.declared.Text.the-variants.{Holds, BrokenAt, TooLong}
+use Rattle.text_records.specs.declared.Text.the-variants.{Holds, Refused}
 
 -- One record, from where its reading stands; the bytes start at index `at` of their chunk. Reading stops after the record's
 -- end, and where the record breaks.
@@ -46,18 +49,22 @@ rowOn fields scan row (byte ∷ rest) = rowFrom (feed scan byte fields) (λ next
 unfoldable pub rowAtEnd : ℕ → Scan → List ℕ → List ℕ
 rowAtEnd fields scan row = rowFrom (feed scan CR fields) (λ next now. now) row
 
+-- 12, at the first record that breaks a rule, counted from 1
+abbrev pub brokenAt : ℕ → Text
+brokenAt place = Refused (Refusal.Record place)
+
 -- A whole text of records of so many fields each, with n records complete before these bytes.
 
 abbrev pub textAtEnd : End → ℕ → Text
 textAtEnd Nothing n = Holds n
 textAtEnd Last n = Holds (n + 1)
-textAtEnd Cut n = BrokenAt (n + 1)
+textAtEnd Cut n = brokenAt (n + 1)
 
 unfoldable pub textFrom : Step → (Scan → Text) → Text → ℕ → Text
 textFrom (More next) on another n = on next
 textFrom (Field field number next) on another n = on next
 textFrom Complete on another n = another
-textFrom Breaks on another n = BrokenAt (n + 1)
+textFrom Breaks on another n = brokenAt (n + 1)
 
 unfoldable pub textOn : ℕ → ℕ → Scan → List ℕ → Text
 textOn fields n scan [] = textAtEnd (ended scan fields) n
@@ -83,21 +90,18 @@ held fields text = textOn fields 0 begin text
 unfoldable pub numbers : ℕ → List ℕ → List ℕ
 numbers fields text = numbersOn fields begin text
 
--- Read into a list with room for so many numbers. A refusal leaves the list as it came.
+-- Read into a list with room for so many numbers: 1 where they don't fit. A refusal leaves the list as it came.
 
 unfoldable pub fit : ℕ → ℕ → Text → Text
-fit fields room (Holds n) = pick (leb (n * fields) room) (Holds n) TooLong
-fit fields room (BrokenAt place) = BrokenAt place
-fit fields room TooLong = TooLong
+fit fields room (Holds n) = pick (leb (n * fields) room) (Holds n) (Refused Length)
+fit fields room (Refused refusal) = Refused refusal
 
 abbrev pub afterReading : Text → List ℕ → List ℕ → List ℕ
 afterReading (Holds n) list into = sets into 0 list
-afterReading (BrokenAt place) list into = into
-afterReading TooLong list into = into
+afterReading (Refused refusal) list into = into
 
 -- A text of exactly one record: a missing one breaks as record 1, and anything after it as record 2.
 
 unfoldable pub one : Text → Text
-one (Holds n) = pick (eqb n 0) (BrokenAt 1) (pick (eqb n 1) (Holds n) (BrokenAt 2))
-one (BrokenAt place) = pick (leb place 1) (BrokenAt 1) (BrokenAt 2)
-one TooLong = TooLong
+one (Holds n) = pick (eqb n 0) (brokenAt 1) (pick (eqb n 1) (Holds n) (brokenAt 2))
+one (Refused refusal) = pick (leb (placeOf refusal) 1) (brokenAt 1) (brokenAt 2)

@@ -10,6 +10,7 @@ mod store;
 mod whole_text;
 
 use fields::open_fields;
+use refusals::Refusal;
 use store::put;
 use text_scans::End;
 use text_scans::Scan;
@@ -35,10 +36,8 @@ pub enum Read {
 pub enum Text {
     // So many records.
     Holds(usize),
-    // The first record that breaks a rule, counted from 1.
-    BrokenAt(usize),
-    // Its numbers do not fit the list.
-    TooLong,
+    // Number 12 at the first record that breaks a rule, or 1 where its numbers do not fit the list.
+    Refused(Refusal),
 }
 
 // The digits of a field after its first: the index after them, and what all of them make.
@@ -144,8 +143,7 @@ pub fn read_text(text: &[u8], fields: usize, list: &mut [u32]) -> Text
             store_text(text, fields, list);
             Text::Holds(records)
         }
-        Text::BrokenAt(record) => Text::BrokenAt(record),
-        Text::TooLong => Text::TooLong,
+        Text::Refused(refusal) => Text::Refused(refusal),
     }
 }
 
@@ -160,7 +158,6 @@ pub fn read_one(text: &[u8], row: &mut [u32]) -> Text
             store_text(text, row.len(), row);
             Text::Holds(records)
         }
-        Text::BrokenAt(record) => Text::BrokenAt(record),
-        Text::TooLong => Text::TooLong,
+        Text::Refused(refusal) => Text::Refused(refusal),
     }
 }

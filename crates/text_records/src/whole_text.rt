@@ -7,6 +7,7 @@ ghost use Rattle.text_scans.specs.Scans.{untouched, ended};
 ghost use Rattle.text_records.specs.Reads.{held, numbers, numbersOn, fit, one};
 use crate::Text;
 use crate::store::put;
+use refusals::Refusal;
 use text_scans::End;
 use text_scans::Scan;
 use text_scans::Step;
@@ -68,7 +69,7 @@ pub(crate) fn check_text(text: &[u8], fields: usize) -> Text
                 records += 1;
             }
             Step::Breaks => {
-                return Text::BrokenAt(records + 1);
+                return Text::Refused(Refusal::Record(records + 1));
             }
         }
     }
@@ -76,7 +77,7 @@ pub(crate) fn check_text(text: &[u8], fields: usize) -> Text
     match end {
         End::Nothing => Text::Holds(records),
         End::Last => Text::Holds(records + 1),
-        End::Cut => Text::BrokenAt(records + 1),
+        End::Cut => Text::Refused(Refusal::Record(records + 1)),
     }
 }
 
@@ -144,11 +145,10 @@ pub(crate) fn fit(fields: usize, room: usize, text: Text) -> Text
             if records <= room / fields {
                 Text::Holds(records)
             } else {
-                Text::TooLong
+                Text::Refused(Refusal::Length)
             }
         }
-        Text::BrokenAt(record) => Text::BrokenAt(record),
-        Text::TooLong => Text::TooLong,
+        Text::Refused(refusal) => Text::Refused(refusal),
     }
 }
 
@@ -159,21 +159,20 @@ pub(crate) fn one(text: Text) -> Text
     match text {
         Text::Holds(records) => {
             if records == 0 {
-                return Text::BrokenAt(1);
+                return Text::Refused(Refusal::Record(1));
             }
             if records == 1 {
                 Text::Holds(records)
             } else {
-                Text::BrokenAt(2)
+                Text::Refused(Refusal::Record(2))
             }
         }
-        Text::BrokenAt(record) => {
-            if record <= 1 {
-                Text::BrokenAt(1)
+        Text::Refused(refusal) => {
+            if refusals::place(refusal) <= 1 {
+                Text::Refused(Refusal::Record(1))
             } else {
-                Text::BrokenAt(2)
+                Text::Refused(Refusal::Record(2))
             }
         }
-        Text::TooLong => Text::TooLong,
     }
 }

@@ -37,12 +37,11 @@ fn print_text(found: Text) {
             io::write_all(1, b"holds ");
             io::print_decimal(1, records as u64);
         }
-        Text::BrokenAt(record) => {
-            io::write_all(1, b"broken at record ");
-            io::print_decimal(1, record as u64);
-        }
-        Text::TooLong => {
-            io::write_all(1, b"too long");
+        Text::Refused(refusal) => {
+            io::write_all(1, b"refused ");
+            io::print_decimal(1, refusals::number(refusal) as u64);
+            io::write_all(1, b" at ");
+            io::print_decimal(1, refusals::place(refusal) as u64);
         }
     }
     io::write_all(1, b": ");

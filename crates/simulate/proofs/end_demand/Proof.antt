@@ -13,10 +13,10 @@ returns c =
     rw (c .pass-last .ensures) (end-closes _ _ _ _ _ _ _ (ended (told .before .before) .end .ensures) (told .run .given .1))
 
 returns-2 : tie.Need-returns-2
-returns-2 c = end-closes _ _ _ _ _ _ _ (ended (c .before .before) .end .ensures) (c .enum-told .given .1)
+returns-2 c = tt
 
 returns-3 : tie.Need-returns-3
-returns-3 c = end-closes _ _ _ _ _ _ _ (ended (c .before .before) .end .ensures) (c .enum-told2 .given .1)
+returns-3 c = let told = c .before in end-closes _ _ _ _ _ _ _ (ended (told .before .before) .end .ensures) (told .run2 .given .1)
 
 pub end-demand-spec : {M : Type 1} → statement M
 end-demand-spec =

@@ -71,9 +71,10 @@ returns-2 c =
 
 returns-3 : tie.Need-returns-3 Inv-loop μ-loop
 returns-3 c =
-    let f = followed (c .before .before) in
+    let told = c .before in
+    let f = followed (told .before .before) in
     let left = part-to-end (begin f .args .chunk .now) (turning f .loop .from) in
-    call-closes _ _ _ _ _ _ _ (turning f .loop .inv .0) _ _ left (f .follow .ensures) (c .enum-told .given .1)
+    call-closes _ _ _ _ _ _ _ (turning f .loop .inv .0) _ _ left (f .follow .ensures) (told .run3 .given .1)
 
 returns-4 : tie.Need-returns-4 Inv-loop μ-loop
 returns-4 c = leads-to-its-end _ _ _ _ _ _ _ _ (c .before .loop .inv .0) (c .loop-test .left)

@@ -48,8 +48,9 @@ returns-3 c = record { pieces = []; goes = tt }
 
 returns-4 : tie.Need-returns-4 Inv-loop μ-loop
 returns-4 c =
-    let f = followed (c .before .before) in
-    unfits-then _ _ _ _ (turning f .loop .inv .0) (f .follow-some .ensures) (c .enum-told4 .given .1)
+    let told = c .before in
+    let f = followed (told .before .before) in
+    unfits-then _ _ _ _ (turning f .loop .inv .0) (f .follow-some .ensures) (told .next2 .given .1)
 
 returns-5 : tie.Need-returns-5 Inv-loop μ-loop
 returns-5 c = record { pieces = c .before .loop .inv .0 .pieces; goes = c .before .loop .inv .0 .goes }

@@ -15,10 +15,6 @@ returns-2 : tie.Need-returns-2
 returns-2 c = let single = c .before .before .before in
     (sym (c .before .found2 .given .1) ∙ single .one .ensures ∙ ap one (single .before .check-text .ensures), refl)
 
-returns-3 : tie.Need-returns-3
-returns-3 c = let single = c .before .before in
-    (sym (c .enum-told .given .1) ∙ single .one .ensures ∙ ap one (single .before .check-text .ensures), refl)
-
 pub read-one-spec : {M : Type 1} → statement M
 read-one-spec =
     tie.close
@@ -29,7 +25,5 @@ read-one-spec =
     (λ c κs. search needs)
     (λ c. search needs)
     (λ c. search needs)
-    (λ c. search needs)
     returns
-    returns-2
-    returns-3)
+    returns-2)

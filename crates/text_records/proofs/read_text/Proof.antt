@@ -20,11 +20,6 @@ returns-2 c = let fitted = c .before .before .before in
     let a = fitted .before .before .before .before .args in
     (sym (c .before .found2 .given .1) ∙ fitted .fit .ensures ∙ ap (fit (a .fields) (length (a .list .now))) (fitted .before .check-text .ensures), refl)
 
-returns-3 : tie.Need-returns-3
-returns-3 c = let fitted = c .before .before in
-    let a = fitted .before .before .before .before .args in
-    (sym (c .enum-told .given .1) ∙ fitted .fit .ensures ∙ ap (fit (a .fields) (length (a .list .now))) (fitted .before .check-text .ensures), refl)
-
 pub read-text-spec : {M : Type 1} → statement M
 read-text-spec =
     tie.close
@@ -35,7 +30,5 @@ read-text-spec =
     (λ c κs. search needs)
     (λ c. search needs)
     (λ c. search needs)
-    (λ c. search needs)
     returns
-    returns-2
-    returns-3)
+    returns-2)

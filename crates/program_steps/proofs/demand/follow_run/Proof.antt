@@ -70,11 +70,6 @@ taken c = turned (told c .before .before)
 loop-holds : tie.Need-loop-holds Inv-loop μ-loop
 loop-holds c = (begins _ _ _ _ _ _ _ _ (c .before .before .before .before .before .before .before .pre), refl, refl, refl, refl)
 
-has-room-requires : tie.Need-has-room-requires Inv-loop μ-loop
-has-room-requires c κs =
-    let now = c .before .loop in
-    rw (c .before .before .cells .ensures) (cells-most (corridorOf (begin (c .before) .args .table .now) (now .state)) (now .inv .0 .ready .fits))
-
 returns : tie.Need-returns Inv-loop μ-loop
 returns c =
     let asks = c .before .before in
@@ -126,7 +121,7 @@ follow-run-spec =
     μ-loop
     (λ c κs. search needs)
     loop-holds
-    has-room-requires
+    (λ c κs. search needs)
     (λ c κs. search needs)
     (λ c. search needs)
     (λ c. search needs)

@@ -47,13 +47,13 @@ returns c = let fed = c .before .before in
     let at = fed .before .before .before in
     check-breaks (at .loop .inv) (search needs) (fed .feed .ensures) (c .enum-told2 .given .1)
 
-add-t17 : tie.Need-add-t17 Inv-loop μ-loop
-add-t17 c = let end = c .before .before in
+add-t18 : tie.Need-add-t18 Inv-loop μ-loop
+add-t18 c = let end = c .before .before in
     let at = end .before .before in
     omega (arith, check-last (at .loop .inv) (end .text-end .ensures) (λ none. absurd (Last≢Nothing (sym (c .enum-told4 .given .1) ∙ none))))
 
-add-t18 : tie.Need-add-t18 Inv-loop μ-loop
-add-t18 c = let end = c .before .before in
+add-t19 : tie.Need-add-t19 Inv-loop μ-loop
+add-t19 c = let end = c .before .before in
     let at = end .before .before in
     omega (arith, check-last (at .loop .inv) (end .text-end .ensures) (λ none. absurd (Cut≢Nothing (sym (c .enum-told5 .given .1) ∙ none))))
 
@@ -100,9 +100,9 @@ check-text-spec =
     (λ c κs. search needs)
     (λ c. search needs)
     (λ c. search needs)
-    add-t17
-    (λ c. search needs)
     add-t18
+    (λ c. search needs)
+    add-t19
     returns-2
     returns-3
     returns-4)

@@ -36,10 +36,6 @@ returns-4 : tie.Need-returns-4
 unfolding fit
 returns-4 c = rw (c .before .text2 .given .1)
 
-returns-5 : tie.Need-returns-5
-unfolding fit
-returns-5 c = rw (c .enum-told .given .1)
-
 pub fit-spec : {M : Type 1} → statement M
 fit-spec =
     tie.close
@@ -48,8 +44,6 @@ fit-spec =
     returns
     (λ c. search needs)
     (λ c. search needs)
-    (λ c. search needs)
     returns-2
     returns-3
-    returns-4
-    returns-5)
+    returns-4)

@@ -1,6 +1,8 @@
 -- `text_records::whole_text::one` meets its contract. Assumes nothing.
+use native.Mathlib.Omega.{arith}
 use borrow.Author.Tests.{eq-eqb, ne-eqb, le-leb, lt-leb}
 use borrow.Author.Needs.{needs}
+use Rattle.refusals.specs.Refusals.{placeOf}
 use Rattle.text_records.specs.Reads.{one}
 use Rattle.text_records.proofs.whole_text.one.Statement.{statement}
 use Rattle.text_records.proofs.whole_text.one.Tie as tie
@@ -21,15 +23,13 @@ returns-3 c = let text = c .before .before .before .text .given in
 
 returns-4 : tie.Need-returns-4
 unfolding one
-returns-4 c = let text = c .before .before .text2 .given in rw (text .1) (rw (le-leb (text .0 .0) 1 (c .if3 .taken)))
+returns-4 c = let text = c .before .before .before .text2 .given in
+    rw (text .1) (rw (le-leb (placeOf (text .0 .0)) 1 (omega (arith, c .before .place .ensures, c .if3 .taken))))
 
 returns-5 : tie.Need-returns-5
 unfolding one
-returns-5 c = let text = c .before .before .text2 .given in rw (text .1) (rw (lt-leb (text .0 .0) 1 (c .if3 .left)))
-
-returns-6 : tie.Need-returns-6
-unfolding one
-returns-6 c = rw (c .enum-told .given .1)
+returns-5 c = let text = c .before .before .before .text2 .given in
+    rw (text .1) (rw (lt-leb (placeOf (text .0 .0)) 1 (omega (arith, c .before .place .ensures, c .if3 .left))))
 
 pub one-spec : {M : Type 1} → statement M
 one-spec =
@@ -38,9 +38,8 @@ one-spec =
     (λ c. search needs)
     returns
     (λ c. search needs)
-    (λ c. search needs)
+    (λ c κs. search needs)
     returns-2
     returns-3
     returns-4
-    returns-5
-    returns-6)
+    returns-5)
