@@ -2,18 +2,22 @@
 -- tables in turn, the lowest number. Assumes nothing.
 use Prim.Native.Nat.{ℕ}
 use mathlib.Core.Path.{_≡_, refl}
-use mathlib.Core.Bool.{Bool}
-use mathlib.Core.List.{List, [], _∷_}
+use mathlib.Core.Bool.{Bool, _&&_}
+use mathlib.Core.List.{List, [], _∷_, _++_}
 use native.Mathlib.Omega.{arith}
+use lib.Dec.{eqb}
 use lib.Ieee.{Float}
+use lib.ListN.{length}
 use Rattle.refusals.specs.declared.Refusal.{Refusal}
 use Rattle.refusals.specs.declared.Answer.the-variants.{Refused}
-use Rattle.refusals.specs.Checks.{lengths, answer}
-use Rattle.layout.specs.Corridor.{Corridor}
+use Rattle.refusals.specs.Checks.{Check, lengths, answer}
+use Rattle.layout.specs.Sheet.{sheetLength}
+use Rattle.layout.specs.Corridor.{Corridor, cellsOf}
 use Rattle.accept_tables.specs.Tables.{rowsInRange, roomsShared, rampsOnce, tableChecks, bothTablesChecks}
-use Rattle.accept_rows.specs.Acceptance.{stateInRange, demandInRange, queuesHold, stateChecks, rowChecks, demandNumbers, demandChecks, stateAloneChecks}
+use Rattle.accept_rows.specs.Acceptance.{stateLengthsFit, rowLengthsFit, stateInRange, demandInRange, queuesHold, stateNumbers, stateChecks, rowChecks, demandNumbers, demandChecks, stateAloneChecks}
 use Rattle.period.specs.Period.{periodChecks}
-use Rattle.period_run.specs.Run.{runChecks}
+use Rattle.period_run.specs.Run.{runListsFit, runChecks}
+use Rattle.program_steps.specs.Demand.{followListsFit, followChecks}
 use Rattle.recut.specs.Recut.{countsSum, cellsAreCut, recutChecks}
 use Rattle.calibrate_rows.specs.declared.Diagram.{Diagram}
 use Rattle.calibrate_rows.specs.declared.RowValues.{RowValues}
@@ -63,6 +67,50 @@ nine-alone period cell = record { numbered = λ p. refl; ascends = λ p q h. h }
 eleven : (values : RowValues) → Numbered 11 (valuesFit values)
 eleven values = record { numbered = λ p. refl; ascends = λ p q h. omega arith }
 
+-- 1 of some lists and 2 to 5, and with 6 and 7 after them
+module _ (fit : Bool) (c : Corridor) where
+  abbrev to-five : List Check
+  to-five = lengths fit ∷ stateNumbers c
+
+  one-to-five : {refusal : Refusal} → answer to-five ≡ Refused refusal → SmallestPlace to-five refusal
+  one-to-five =
+      smallest-place 1 (1 ∷ 2 ∷ 3 ∷ 4 ∷ 5 ∷ []) to-five
+      (omega arith, (one fit, (omega arith, (two (c .table), (omega arith, (three (c .table), (omega arith, (four (c .table), (omega arith, (five c, tt))))))))))
+
+  one-to-seven : (demand : List ℕ) {refusal : Refusal} → answer (to-five ++ demandNumbers c demand) ≡ Refused refusal → SmallestPlace (to-five ++ demandNumbers c demand) refusal
+  one-to-seven demand =
+      smallest-place 1 (1 ∷ 2 ∷ 3 ∷ 4 ∷ 5 ∷ 6 ∷ 7 ∷ []) (to-five ++ demandNumbers c demand) (
+        omega arith,
+        (
+          one fit,
+          (
+            omega arith,
+            (
+              two (c .table),
+              (
+                omega arith,
+                (
+                  three (c .table),
+                  (
+                    omega arith,
+                    (
+                      four (c .table),
+                      (
+                        omega arith,
+                        (
+                          five c,
+                          (omega arith, (six c demand, (omega arith, (seven c demand, tt)))),
+                        ),
+                      ),
+                    ),
+                  ),
+                ),
+              ),
+            ),
+          ),
+        ),
+      )
+
 -- The lists, each with its numbers.
 
 pub table-lowest : (table : List ℕ) {refusal : Refusal} → answer (tableChecks table) ≡ Refused refusal → SmallestPlace (tableChecks table) refusal
@@ -78,17 +126,17 @@ both-tables-lowest first second =
 
 module _ (c : Corridor) {refusal : Refusal} where
   pub state-lowest : answer (stateChecks c) ≡ Refused refusal → SmallestPlace (stateChecks c) refusal
-  state-lowest =
-      smallest-place 1 (1 ∷ 2 ∷ 3 ∷ 4 ∷ 5 ∷ []) (stateChecks c)
-      (omega arith, (one _, (omega arith, (two (c .table), (omega arith, (three (c .table), (omega arith, (four (c .table), (omega arith, (five c, tt))))))))))
+  state-lowest = one-to-five (stateLengthsFit c) c
 
   pub state-alone-lowest : answer (stateAloneChecks c) ≡ Refused refusal → SmallestPlace (stateAloneChecks c) refusal
   state-alone-lowest = smallest-place 1 (1 ∷ 5 ∷ []) (stateAloneChecks c) (omega arith, (one _, (omega arith, (five c, tt))))
 
   pub run-lowest : (demand sheet : List ℕ) → answer (runChecks c demand sheet) ≡ Refused refusal → SmallestPlace (runChecks c demand sheet) refusal
-  run-lowest demand sheet =
-      smallest-place 1 (1 ∷ 2 ∷ 3 ∷ 4 ∷ 5 ∷ []) (runChecks c demand sheet)
-      (omega arith, (one _, (omega arith, (two (c .table), (omega arith, (three (c .table), (omega arith, (four (c .table), (omega arith, (five c, tt))))))))))
+  run-lowest demand sheet = one-to-five (stateLengthsFit c && runListsFit (cellsOf c) demand sheet) c
+
+  pub follow-lowest : (row sheet out : List ℕ) → answer (followChecks c row sheet out) ≡ Refused refusal → SmallestPlace (followChecks c row sheet out) refusal
+  unfolding followChecks
+  follow-lowest row sheet out = one-to-five (stateLengthsFit c && followListsFit (cellsOf c) row sheet out) c
 
   module _ (demand : List ℕ) where
     pub demand-lowest : answer (demandChecks c demand) ≡ Refused refusal → SmallestPlace (demandChecks c demand) refusal
@@ -101,14 +149,10 @@ module _ (c : Corridor) {refusal : Refusal} where
     row-of-a-run-lowest = smallest-place 6 (6 ∷ 7 ∷ []) (demandNumbers c demand) (omega arith, (six c demand, (omega arith, (seven c demand, tt))))
 
     pub row-lowest : answer (rowChecks c demand) ≡ Refused refusal → SmallestPlace (rowChecks c demand) refusal
-    row-lowest =
-        smallest-place 1 (1 ∷ 2 ∷ 3 ∷ 4 ∷ 5 ∷ 6 ∷ 7 ∷ []) (rowChecks c demand)
-        (omega arith, (one _, (omega arith, (two (c .table), (omega arith, (three (c .table), (omega arith, (four (c .table), (omega arith, (five c, (omega arith, (six c demand, (omega arith, (seven c demand, tt))))))))))))))
+    row-lowest = one-to-seven (rowLengthsFit c demand) c demand
 
     pub period-lowest : (sheet : List ℕ) → answer (periodChecks c demand sheet) ≡ Refused refusal → SmallestPlace (periodChecks c demand sheet) refusal
-    period-lowest sheet =
-        smallest-place 1 (1 ∷ 2 ∷ 3 ∷ 4 ∷ 5 ∷ 6 ∷ 7 ∷ []) (periodChecks c demand sheet)
-        (omega arith, (one _, (omega arith, (two (c .table), (omega arith, (three (c .table), (omega arith, (four (c .table), (omega arith, (five c, (omega arith, (six c demand, (omega arith, (seven c demand, tt))))))))))))))
+    period-lowest sheet = one-to-seven (rowLengthsFit c demand && eqb (length sheet) (sheetLength (cellsOf c))) c demand
 
   -- of two tables in turn, and of 8 in all and by cells, the number is the lowest
   pub recut-lowest : (pieces new list : List ℕ) → answer (recutChecks c pieces new list) ≡ Refused refusal → LowestNumber (recutChecks c pieces new list) refusal
