@@ -13,7 +13,7 @@ use Rattle.calibrate_rows.specs.RowNumbers.{valueFits}
 abbrev pub exact : ℕ → Float
 exact n = fin false n (pos 0)
 
--- a double that is not below zero, infinite or NaN; minus zero is one
+-- a finite double that is not below zero; minus zero is one
 pub record FiniteNotNegative (x : Float) : Type 0 where
   pub is-finite : finite x ≡ true
   pub least : le (exact 0) x ≡ true
