@@ -110,9 +110,9 @@ pub good-flow : (g : Float) (lanes : ℕ) (flow occupancy : Float) → Of (λ f 
 good-flow g lanes flow occupancy =
     of-sample (λ f d. UpTo 20_000 f) g lanes flow occupancy (λ in-flow in-occupancy. unsigned-up-to 20_000 (lit≤ tt) flow in-flow)
 
--- under settings in range, its density is from 0 to 12,288 and is not minus zero
-pub usual-sample : (g : Float) (lanes : ℕ) (flow occupancy : Float) → vehicleFits g ≡ true → lanesFit lanes ≡ true → Of Usual (sampleOf g lanes flow occupancy)
-usual-sample g lanes flow occupancy vehicle many =
+-- under g and lanes in range, its density is from 0 to 12,288 and is not minus zero: then no usable sample holds minus zero
+pub good-sample : (g : Float) (lanes : ℕ) (flow occupancy : Float) → vehicleFits g ≡ true → lanesFit lanes ≡ true → Of Usual (sampleOf g lanes flow occupancy)
+good-sample g lanes flow occupancy vehicle many =
     of-sample Usual g lanes flow occupancy λ in-flow in-occupancy. (
       unsigned-up-to 20_000 (lit≤ tt) flow in-flow,
       mul-up-to 1_024 12 (unsigned occupancy ⊘ g) (double lanes)
@@ -213,7 +213,7 @@ module _ (settings : Settings) (flow occupancy : List Float) {diagram : Diagram}
   usual =
       let outer = both-hold (vehicleFits (settings .g) && lanesFit (settings .lanes)) _ settings-fit in
       let inner = both-hold (vehicleFits (settings .g)) _ (outer .0) in
-      each-built Usual (length flow) (sampleAt settings flow occupancy) (λ i. usual-sample _ _ _ _ (inner .0) (inner .1))
+      each-built Usual (length flow) (sampleAt settings flow occupancy) (λ i. good-sample _ _ _ _ (inner .0) (inner .1))
 
   -- a fitted diagram is sound
   pub fitted-sound : Sound diagram

@@ -1,14 +1,17 @@
--- Rounding down: what the limits of a row value say over whole numbers, and that the shifted mantissa is the largest whole
--- number not above the double. Assumes nothing.
+-- Rounding down: what the limits of a row value say over whole numbers, which doubles have a largest whole number not above
+-- them, and that the shifted mantissa is it. Assumes nothing.
 use Prim.Native.Nat.{ℕ, _+_, _-_, _*_, _/_, _^_, _≤_, _<_, min}
 use mathlib.Core.Path.{_≡_, refl, sym, _∙_, subst}
-use mathlib.Core.Bool.{Bool, true, false, not}
-use native.Mathlib.Nat.{le-trans, le-of-eq, lt-of-lt-of-le, mul-comm, mul-right-comm, mul-le-mul-right, mul-lt-mul-of-pos-right, mod-eq-of-lt, div-lt-iff-lt-mul, le-div-iff-mul-le, div-le-of-le-mul}
+use mathlib.Core.Logic.{_⊎_, inl, inr}
+use mathlib.Core.Bool.{Bool, true, false, not, _||_, false≢true}
+use native.Mathlib.Nat.{le-trans, le-of-eq, lt-of-lt-of-le, mul-comm, mul-right-comm, mul-le-mul-right, mul-lt-mul-of-pos-right, mod-eq-of-lt, div-lt-iff-lt-mul, le-div-iff-mul-le, div-le-of-le-mul, zero-div}
 use native.Mathlib.Omega.{arith}
-use lib.Dec.{T, lit≤, lit<, lt→ltb}
+use borrow.Author.Tests.{ltb-true, eqb-true, eq-eqb}
+use lib.IntN.{ℤ}
+use lib.Dec.{T, ltb, eqb, lit≤, lit<, lt→ltb}
 use lib.Pow.{pow-pos}
 use lib.Bits.{bitAnd, bitOr, and-mask}
-use lib.Ieee.{Float, nan, inf, fin, binary64, up, down, size, ofInt, fits, isNan, toBits, toUnsigned, le, lt}
+use lib.Ieee.{Float, nan, inf, fin, binary64, up, down, size, ofInt, fits, isNan, toBits, toUnsigned, le, lt, eq}
 use lib.Ieee.Digits.{size-le}
 use lib.Ieee.Fits.{kept-lt, down-pos}
 use lib.Ieee.Bits.{is-true}
@@ -22,7 +25,7 @@ use Rattle.calibrate_rows.specs.Doubles.{double}
 use Rattle.calibrate_rows.specs.declared.RowValues.{RowValues}
 use Rattle.calibrate_rows.specs.declared.RowNumbers.{RowNumbers}
 use Rattle.calibrate_rows.specs.RowNumbers.{numerator, denominator, roundedDown, rowNumbers, valueFits}
-use Rattle.calibrate_rows.specs.Private.{LargestNotAbove}
+use Rattle.calibrate_rows.specs.Private.{exact, FiniteNotNegative, LargestNotAbove}
 
 -- the size of a double as a fraction, in the words of the laws of floats
 numerator-is : (x : Float) → numerator x ≡ positive.num x
@@ -38,17 +41,65 @@ denominator-is (fin negative m e) = refl
 pub denominator-pos : (x : Float) → 0 < denominator x
 denominator-pos x = rw (denominator-is x) (positive.den-pos x)
 
--- there is one largest whole number not above x
-pub rounded : (x : Float) → LargestNotAbove x (roundedDown x)
-rounded x =
-    record {
-      not-above = le-div-iff-mul-le (denominator-pos x) .0 (omega arith);
-      largest = div-lt-iff-lt-mul (denominator-pos x) .0 (omega arith);
-    }
+-- ---- the largest whole number not above a double
 
-pub only-one : (x : Float) (r : ℕ) → LargestNotAbove x r → r ≡ roundedDown x
-only-one x r largest =
-    omega (arith, le-div-iff-mul-le (denominator-pos x) .1 (largest .not-above), div-lt-iff-lt-mul (denominator-pos x) .1 (largest .largest))
+either-holds : (a b : Bool) → (a || b) ≡ true → (a ≡ true) ⊎ (b ≡ true)
+either-holds true b e = inl refl
+either-holds false b e = inr e
+
+-- what is not above a double with a minus sign is zero, and so is that double
+both-zero : (n m : ℕ) (e : ℤ) → le (exact n) (fin true m e) ≡ true → (n * down e ≡ 0) × (m * up e ≡ 0)
+unfolding le lt eq
+both-zero n m e h =
+    let both = both-hold (eqb (n * 1 * down e) (m * up e * 1)) (eqb (n * 1 * down e) 0) h in
+    let none = eqb-true (n * 1 * down e) 0 (both .1) in
+    (omega (arith, none), omega (arith, none, eqb-true (n * 1 * down e) (m * up e * 1) (both .0)))
+
+-- a whole number is not above a double just where it is not above the fraction
+under-fraction : (n : ℕ) (negative : Bool) (m : ℕ) (e : ℤ) → le (exact n) (fin negative m e) ≡ true → n * down e ≤ m * up e
+unfolding le lt eq
+under-fraction n true m e h = omega (arith, both-zero n m e h .0)
+under-fraction n false m e h =
+    elim (either-holds (ltb (n * 1 * down e) (m * up e * 1)) _ h) [
+      | inl less ↦ omega (arith, ltb-true (n * 1 * down e) (m * up e * 1) less)
+      | inr same ↦ omega (arith, eqb-true (n * 1 * down e) (m * up e * 1) (both-hold _ _ same .0))
+    ]
+
+under-double : (n m : ℕ) (e : ℤ) → n * down e ≤ m * up e → le (exact n) (fin false m e) ≡ true
+under-double n m e h =
+    is-true _
+    (le-of-values (exact n) (fin false m e) n 1 (m * up e) (down e) (lit< tt) (down-pos e) (refl, omega arith) (refl, refl) (omega arith))
+
+with-plus : (m : ℕ) (e : ℤ) → FiniteNotNegative (fin false m e)
+with-plus m e = record { is-finite = refl; least = under-double 0 m e (omega arith) }
+
+-- a finite double that is not negative has one: what it is rounded down to
+pub rounded : (x : Float) → FiniteNotNegative x → LargestNotAbove x (roundedDown x)
+rounded nan p = absurd (false≢true (p .is-finite))
+rounded (inf negative) p = absurd (false≢true (p .is-finite))
+rounded (fin negative m e) p =
+    record {
+      not-above = by negative (p .least);
+      largest = λ n h. le-div-iff-mul-le (down-pos e) .1 (under-fraction n negative m e h);
+    }
+  where
+    by : (negative : Bool) → le (exact 0) (fin negative m e) ≡ true → le (exact (m * up e / down e)) (fin negative m e) ≡ true
+    by true zero = rw (both-zero 0 m e zero .1, zero-div (down e)) zero
+    by false zero = under-double (m * up e / down e) m e (le-div-iff-mul-le (down-pos e) .0 (omega arith))
+
+-- no other double has one
+pub only-not-negative : (x : Float) {r : ℕ} → LargestNotAbove x r → FiniteNotNegative x
+unfolding le lt eq
+only-not-negative nan one = absurd (false≢true (one .not-above))
+only-not-negative (inf true) one = absurd (false≢true (one .not-above))
+only-not-negative (inf false) {r} one = absurd (omega (arith, one .largest (r + 1) refl))
+only-not-negative (fin true m e) {r} one =
+    record { is-finite = refl; least = rw (both-zero r m e (one .not-above) .1, eq-eqb (0 * 1 * down e) 0 (omega arith)) }
+only-not-negative (fin false m e) one = with-plus m e
+
+-- none has two
+pub only-one : {x : Float} {r s : ℕ} → LargestNotAbove x r → LargestNotAbove x s → r ≡ s
+only-one {r = r} {s} one other = omega (arith, one .largest s (other .not-above), other .largest r (one .not-above))
 
 -- a whole number up to 2 ^ 53, as a double
 double-value : (n : ℕ) → n ≤ 2 ^ 53 → HasValue (double n) false n 1
@@ -93,6 +144,13 @@ module _ (limit : ℕ) (h : limit ≤ 2 ^ 53) (p : 0 < limit) (x : Float) where
       let low = is-true (le (double 1) x) (le-of-values (double 1) x 1 1 (positive.num x) (positive.den x) (lit< tt) (positive.den-pos x) (double-value 1 (lit≤ tt)) value least) in
       let high = is-true (le x (double limit)) (le-of-values x (double limit) (positive.num x) (positive.den x) limit 1 (positive.den-pos x) (lit< tt) value (double-value limit h) most) in
       rw (low, high)
+
+-- what is above zero is not negative
+not-negative : (x : Float) → T (positive.positive x) → FiniteNotNegative x
+not-negative nan p = absurd p
+not-negative (inf negative) p = absurd p
+not-negative (fin true m e) p = absurd p
+not-negative (fin false m e) p = with-plus m e
 
 -- a value within a limit is within a larger one
 pub wider : (x : Float) (limit more : ℕ) → 0 < limit → limit ≤ more → more ≤ 2 ^ 53 → valueFits limit x ≡ true → valueFits more x ≡ true
@@ -193,10 +251,13 @@ module _ (x : Float) (held : fits binary64 x ≡ true) (fit : valueFits 4_000_00
   shifted-most = rw shifted-is (rounded-most x 4_000_000 inside)
 
   pub shifted-rounds : LargestNotAbove x (bitOr (bitAnd bits 4503599627370495) 4503599627370496 / 2 ^ (1075 - bitAnd field 2047))
-  shifted-rounds = rw shifted-is (rounded x)
+  shifted-rounds = rw shifted-is (rounded x (not-negative x (inside .above-zero)))
 
 -- four numbers that are the largest not above four values
 pub numbers-are : (values : RowValues) (v w capacity jam : ℕ) → LargestNotAbove (values .v) v → LargestNotAbove (values .w) w → LargestNotAbove (values .capacity) capacity → LargestNotAbove (values .jam) jam → _≡_ {A = RowNumbers} (record { v = v; w = w; capacity = capacity; jam = jam }) (rowNumbers values)
 unfolding rowNumbers
 numbers-are values v w capacity jam hv hw hc hj =
-    rw (only-one (values .v) v hv, only-one (values .w) w hw, only-one (values .capacity) capacity hc, only-one (values .jam) jam hj)
+    rw (is-rounded hv, is-rounded hw, is-rounded hc, is-rounded hj)
+  where
+    is-rounded : {x : Float} {r : ℕ} → LargestNotAbove x r → r ≡ roundedDown x
+    is-rounded {x} one = only-one one (rounded x (only-not-negative x one))

@@ -32,7 +32,7 @@ denominator nan = 1
 denominator (inf negative) = 1
 denominator (fin negative m e) = down e
 
--- the largest whole number not above a double that is not negative
+-- the largest whole number not above a finite double that is not negative
 abbrev pub roundedDown : Float → ℕ
 roundedDown x = numerator x / denominator x
 
