@@ -8,21 +8,26 @@ use Rattle.layout.specs.Corridor.{Corridor, cellsOf, rowOf, entryQueueOf, count
 use Rattle.accept_ranges.specs.Ranges.{withRamp, queueLimit}
 use Rattle.accept_rows.specs.Vehicles.{vehicles}
 use Rattle.period.specs.Sharing.{Sharing}
+use Rattle.ledger.specs.Account.{Account}
 use Rattle.ledger.specs.Calls.{Call, IsAccepted, leavesAll, accountOfAll, queueOfRamp, rampsOf}
 
-pub record Demand3 (way : Sharing) (start : Corridor) (calls : List Call) : Type 0 where
+-- what holds between the corridor at the start and the one that the calls left, with the account of all of them
+pub record Holds (start left : Corridor) (account : Account) : Type 0 where
   -- The table and the state are accepted again.
-  pub accepted : IsAccepted (leavesAll way calls start)
+  pub accepted : IsAccepted left
   -- Each cell holds between nothing and its jam count.
-  pub counts : (i : ℕ) → i < cellsOf (leavesAll way calls start) → countOf (leavesAll way calls start) i ≤ rowOf (leavesAll way calls start) i .jam
+  pub counts : (i : ℕ) → i < cellsOf left → countOf left i ≤ rowOf left i .jam
   -- The entry's queue is within its range, and so is each on-ramp's, which is 0 where there is no on-ramp.
-  pub entryQueue : entryQueueOf (leavesAll way calls start) ≤ queueLimit
-  pub rampQueues : (i : ℕ) → i < cellsOf (leavesAll way calls start) → queueOf (leavesAll way calls start) i ≤ withRamp (rowOf (leavesAll way calls start) i .on) queueLimit
+  pub entryQueue : entryQueueOf left ≤ queueLimit
+  pub rampQueues : (i : ℕ) → i < cellsOf left → queueOf left i ≤ withRamp (rowOf left i .on) queueLimit
   -- A ramp number that stands at two positions along the road is 0, no ramp.
-  pub rampsOnce : (j k : ℕ) → j < k → k < rampPositions (cellsOf (leavesAll way calls start)) → rampAt (leavesAll way calls start .table) j ≡ rampAt (leavesAll way calls start .table) k → rampAt (leavesAll way calls start .table) k ≡ 0
+  pub rampsOnce : (j k : ℕ) → j < k → k < rampPositions (cellsOf left) → rampAt (left .table) j ≡ rampAt (left .table) k → rampAt (left .table) k ≡ 0
   -- Vehicles in cells and queues, with all that left by off-ramps and the last cell, are those at the start with all accepted demand.
-  pub balance : vehicles (leavesAll way calls start) + accountOfAll way calls start .out ≡ vehicles start + accountOfAll way calls start .brought
+  pub balance : vehicles left + account .out ≡ vehicles start + account .brought
   -- Each on-ramp's queue, with all its flows, is its own at the start with all its accepted demand.
-  pub queues : (ramp : ℕ) → queueOfRamp ramp (leavesAll way calls start) + accountOfAll way calls start .inAt ramp ≡ queueOfRamp ramp start + accountOfAll way calls start .broughtAt ramp
+  pub queues : (ramp : ℕ) → queueOfRamp ramp left + account .inAt ramp ≡ queueOfRamp ramp start + account .broughtAt ramp
   -- The ramp numbers along the road are the same list, in the same order.
-  pub sameRamps : rampsOf (leavesAll way calls start) ≡ rampsOf start
+  pub sameRamps : rampsOf left ≡ rampsOf start
+
+abbrev pub Demand3 : Sharing → Corridor → List Call → Type 0
+Demand3 way start calls = Holds start (leavesAll way calls start) (accountOfAll way calls start)
