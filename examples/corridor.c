@@ -44,7 +44,7 @@ static const char *const WRONG[] = {
 
 static void say(const char *what, uint64_t word)
 {
-    if (word == 0)
+    if (figwimple_number(word) == 0)
         printf("%s: accepted\n", what);
     else
         printf("%s: refused with number %" PRIu32 " at place %" PRIu32 ": %s\n", what, figwimple_number(word),
@@ -162,35 +162,32 @@ int main(int count, char **words)
     fclose(text.file);
     word = figwimple_accept_state(table, table_length, state, state_length);
     say("table and state", word);
-    if (word != 0)
+    if (figwimple_number(word) != 0)
         return 1;
 
-    /* A run that is refused at a row has done the periods before it: `completed` says how many. */
+    /* A run that is refused at a row has done the periods before it: the word's count says how many. */
     uint64_t periods = 0;
-    uint32_t completed = 0;
     open_text(&text, folder, "demand.csv");
-    while (word == 0 && read_record(&text, demand, demand_length)) {
+    while (figwimple_number(word) == 0 && read_record(&text, demand, demand_length)) {
         for (rows = 1; rows < PART && read_record(&text, demand + rows * demand_length, demand_length);)
             rows++;
-        word = figwimple_run(table, table_length, state, state_length, demand, rows * demand_length, sheet, sheet_length,
-                             &completed, 1);
-        periods += completed;
-        if (completed > 0)
+        word = figwimple_run(table, table_length, state, state_length, demand, rows * demand_length, sheet, sheet_length);
+        periods += figwimple_count(word);
+        if (figwimple_count(word) > 0)
             show(periods, cells);
     }
     fclose(text.file);
     say("the demand", word);
     printf("periods completed: %" PRIu64 "\n", periods);
-    if (word != 0)
+    if (figwimple_number(word) != 0)
         return 1;
 
     /* The last part again, its last row with one more at the entry than a demand may be. */
     if (rows > 0) {
         demand[(rows - 1) * demand_length] = 1000001;
-        word = figwimple_run(table, table_length, state, state_length, demand, rows * demand_length, sheet, sheet_length,
-                             &completed, 1);
+        word = figwimple_run(table, table_length, state, state_length, demand, rows * demand_length, sheet, sheet_length);
         say("the last part again, with a demand out of range in its last row", word);
-        printf("periods completed: %" PRIu32 " of %zu\n", completed, rows);
+        printf("periods completed: %" PRIu32 " of %zu\n", figwimple_count(word), rows);
     }
     table[TABLE_LENGTH(cells - 1)] = 65537;
     say("the table with v out of range in the last cell", figwimple_accept_table(table, table_length));

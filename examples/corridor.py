@@ -34,30 +34,34 @@ def call(name, *lists):
     function.restype, function.argtypes = ctypes.c_uint64, [ctypes.POINTER(ctypes.c_uint32), ctypes.c_size_t] * len(lists)
     return function(*[part for lent in lists for part in (lent, len(lent))])
 
+def count(word): return word >> 40
+def number(word): return word >> 32 & 255
+def place(word): return word & 0xffffffff
+
 def say(what, word):
-    print(f"{what}: " + ("accepted" if word == 0 else f"refused with number {word >> 32} at place {word & 0xffffffff}"))
+    print(f"{what}: " + (f"refused with number {number(word)} at place {place(word)}" if number(word) else "accepted"))
 
 library = ctypes.CDLL(sys.argv[1])
 rows = read("cells.csv", 9)
 state_length, demand_length, sheet_length = 2 * len(rows) + 1, 2 * len(rows) + 1, 4 * len(rows) + 1
 table = lend(rows)
 word = call("figwimple_accept_table", table)
-if word >> 32 != 1:  # without a number of cells the other files have no lengths
+if number(word) != 1:  # without a number of cells the other files have no lengths
     states = read("state.csv", state_length)
     if len(states) != 1:
         sys.exit(f"{folder / 'state.csv'}: " + ("record 2 is one too many" if states else "record 1 is missing"))
     state = lend(states)
     word = call("figwimple_accept_state", table, state)
 say("table and state", word)
-if word != 0:
+if number(word) != 0:
     sys.exit(1)
 
-rows, sheet, periods, done = read("demand.csv", demand_length), lend([[0] * sheet_length]), lend([[0]]), 0
+rows, sheet, done = read("demand.csv", demand_length), lend([[0] * sheet_length]), 0
 for start in range(0, len(rows), PART):
-    word = call("figwimple_run", table, state, lend(rows[start:start + PART]), sheet, periods)
-    done += periods[0]  # a run that is refused at a row has done the periods before it
-    if word != 0:
+    word = call("figwimple_run", table, state, lend(rows[start:start + PART]), sheet)
+    done += count(word)  # a run that is refused at a row has done the periods before it
+    if number(word) != 0:
         break
 say("the demand", word)
 print(f"{done} periods; {sum(state)} thousandths of a vehicle on the road and in queues")
-sys.exit(0 if word == 0 else 1)
+sys.exit(0 if number(word) == 0 else 1)

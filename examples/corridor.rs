@@ -20,7 +20,7 @@ fn period(table: &[u32], state: &mut [u32], demand: &[u32], sheet: &mut [u32]) -
             table.as_ptr(), table.len(), state.as_mut_ptr(), state.len(),
             demand.as_ptr(), demand.len(), sheet.as_mut_ptr(), sheet.len())
     };
-    if word == 0 { Ok(()) } else { Err(((word >> 32) as u32, word as u32)) }
+    match (word >> 32) as u32 & 255 { 0 => Ok(()), number => Err((number, word as u32)) }
 }
 
 const CELLS: usize = 2;

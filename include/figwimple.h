@@ -8,8 +8,10 @@
 
        cc -shared -o libfigwimple.so -Wl,--whole-archive target/staticlib/libfigwimple.a -Wl,--no-whole-archive
 
-   WORDS. Each function answers one word: 0 for accepted, else number * 2^32 + place. The number says what is wrong, the place
-   where: a cell, a sample or a row value, counted from 1, or 0.
+   WORDS. Each function answers one word: count * 2^40 + number * 2^32 + place. The number is 0 for accepted, else it says what is
+   wrong, and the place where: a cell, a sample or a row value, counted from 1, or 0. The count is of the periods that a run
+   completed, refused or not, and 0 for every other function. So an accepted run's word is not 0, unless it had no row: callers test
+   the number.
 
        1  a list has the wrong length, the table is not 1 to 512 rows, a run is over 4,096 rows,
           or the free stretch ends past the samples or before it starts                          place 0
@@ -27,7 +29,7 @@
       11  a row value is not at least 1 and at most its limit                                    1 to 4 for v, w, F, J
 
    The lowest number that applies is given, at its smallest place; in a re-cut, of one number, the old table's come before the
-   new one's. A refusal leaves every list as it came, but for a run's count of periods, and for a run refused at a later row.
+   new one's. A refusal leaves every list as it came, but for a run refused at a later row.
 
    LISTS. A list is a pointer and its length in elements. With N cells:
 
@@ -65,13 +67,11 @@ uint64_t figwimple_accept_row(const uint32_t *table, size_t table_length, const 
 uint64_t figwimple_period(const uint32_t *table, size_t table_length, uint32_t *state, size_t state_length,
                           const uint32_t *demand, size_t demand_length, uint32_t *sheet, size_t sheet_length);
 
-/* A run of K demand rows, 0 to 4,096: numbers 1 to 5, then 6 and 7 at each row. `periods`, of length 1, gets the periods completed:
-   K where the run is accepted, the number of rows before the refused one where 6 or 7 refuses it, and 0 where 1 to 5 do. The
-   state is the one after the completed periods, the sheet the last completed period's; with none completed both stay as they came.
-   Where `periods` itself has not length 1 the word is that of number 1, and every list stays. */
+/* A run of K demand rows, 0 to 4,096: numbers 1 to 5, then 6 and 7 at each row. The word's count is of the periods completed: K where
+   the run is accepted, the number of rows before the refused one where 6 or 7 refuses it, and 0 where 1 to 5 do. The state is the one
+   after the completed periods, the sheet the last completed period's; with none completed both stay as they came. */
 uint64_t figwimple_run(const uint32_t *table, size_t table_length, uint32_t *state, size_t state_length,
-                       const uint32_t *demand, size_t demand_length, uint32_t *sheet, size_t sheet_length,
-                       uint32_t *periods, size_t periods_length);
+                       const uint32_t *demand, size_t demand_length, uint32_t *sheet, size_t sheet_length);
 
 /* Cuts the cells of a table into pieces: numbers 1 to 5 and 8. `pieces` has one count for each old cell, and the new table the
    pieces' rows in their order. Accepted, `new_state` has the vehicles and queues under the new table. */
@@ -88,8 +88,9 @@ uint64_t figwimple_calibrate(const double *flow, size_t flow_length, const doubl
                              double g, uint32_t lanes, uint32_t t, double l, size_t start, size_t end,
                              double *diagram, size_t diagram_length, uint32_t *row, size_t row_length);
 
-/* The number and the place of a word that is not 0. */
-static inline uint32_t figwimple_number(uint64_t word) { return (uint32_t)(word >> 32); }
+/* The count, the number and the place of a word. */
+static inline uint32_t figwimple_count(uint64_t word) { return (uint32_t)(word >> 40); }
+static inline uint32_t figwimple_number(uint64_t word) { return (uint32_t)(word >> 32) & 255; }
 static inline uint32_t figwimple_place(uint64_t word) { return (uint32_t)word; }
 
 #ifdef __cplusplus

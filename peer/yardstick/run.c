@@ -104,17 +104,14 @@ static void step(columns *restrict t, uint32_t *restrict state, const uint32_t *
     for (size_t i = 1; i < cells; i++) count[i] += f[i - 1];
 }
 
+/* The periods completed times 2^40, plus number times 2^32 plus place of the refusal that ended them. */
 uint64_t yardstick_run(const uint32_t *table, size_t cells, uint32_t *state, const uint32_t *demand, size_t rows,
-                       uint32_t *sheet, uint32_t *periods) {
+                       uint32_t *sheet) {
     columns t;
     prepare(&t, table, cells);
     for (size_t k = 0; k < rows; k++, demand += 2 * cells + 1) {
-        if (breaks(&t, state, demand, cells)) {
-            *periods = (uint32_t)k;
-            return refusal(&t, state, demand, cells);
-        }
+        if (breaks(&t, state, demand, cells)) return (uint64_t)k << 40 | refusal(&t, state, demand, cells);
         step(&t, state, demand, sheet, cells);
     }
-    *periods = (uint32_t)rows;
-    return 0;
+    return (uint64_t)rows << 40;
 }

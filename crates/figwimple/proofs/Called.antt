@@ -6,7 +6,7 @@ use mathlib.Core.List.{List, [], _∷_}
 use native.Mathlib.Omega.{arith}
 use mir.Syntax.{w64}
 use mir.Val.{Fits}
-use borrow.Author.Tests.{eq-eqb, ne-eqb, eqb-true, not-true, not-false}
+use borrow.Author.Tests.{eqb-true, not-true, not-false}
 use lib.Dec.{eqb}
 use lib.Ieee.{Float}
 use lib.ListN.{length, set}
@@ -32,8 +32,8 @@ use Rattle.calibrate_fit.specs.declared.Calibration.{Calibration}
 use Rattle.calibrate_fit.specs.declared.Calibration.the-variants.{Calibrated, NotCalibrated}
 use Rattle.calibrate_rows.specs.RowNumbers.{rowNumbers}
 use Rattle.calibrate_fit.specs.Calibration.{calibrationChecks, fittedDiagram, fittedValues, calibratedAs, calibrationOf}
-use Rattle.figwimple.specs.Words.{HALF, wordOf}
-use Rattle.figwimple.specs.Private.{Placed}
+use Rattle.figwimple.specs.Words.{PLACES, ANSWERS, wordOf}
+use Rattle.figwimple.specs.Private.{COUNTS, Placed}
 use Rattle.figwimple.specs.Calls.{PeriodCalled, RunCalled, RecutCalled, fiveOf, fourOf, resultsFit, CalibrateCalled}
 use Rattle.figwimple.proofs.Places.{calibration-placed}
 
@@ -54,22 +54,41 @@ numbers Fit = record { least = omega arith; most = omega arith }
 numbers (RowValue value) = record { least = omega arith; most = omega arith }
 numbers (Record place) = record { least = omega arith; most = omega arith }
 
-module _ {answered : Answer} {refusal : Refusal} {number place : ℕ} where
-  pub word-fits : Placed answered → answered ≡ Refused refusal → number ≡ numberOf refusal → place ≡ placeOf refusal → Fits w64 (number * HALF + place)
-  word-fits placed is n p = let low : placeOf refusal < HALF = rw is at placed in record { fits = omega (arith, numbers refusal) }
+module _ (count : ℕ) {answered : Answer} {refusal : Refusal} {number place : ℕ} where
+  pub word-fits : count < COUNTS → Placed answered → answered ≡ Refused refusal → number ≡ numberOf refusal → place ≡ placeOf refusal → Fits w64 (count * ANSWERS + number * PLACES + place)
+  word-fits few placed is n p =
+      let low : placeOf refusal < PLACES = rw is at placed in
+      record { fits = omega (arith, numbers refusal) }
 
-  pub word-is : answered ≡ Refused refusal → number ≡ numberOf refusal → place ≡ placeOf refusal → number * HALF + place ≡ wordOf answered
+  pub word-is : answered ≡ Refused refusal → number ≡ numberOf refusal → place ≡ placeOf refusal → count * ANSWERS + number * PLACES + place ≡ wordOf count answered
   word-is is n p = rw (is, n, p)
 
--- a caller takes the word apart: its upper half is the number, its lower half the place, and no refusal is 0
-pub record Tells (word : ℕ) (refusal : Refusal) : Type 0 where
-  pub number : word / HALF ≡ numberOf refusal
-  pub place : word % HALF ≡ placeOf refusal
-  pub not-accepted : word ≡ wordOf Accepted → ⊥
+-- an accepted answer has number 0 at place 0
+abbrev numberIn : Answer → ℕ
+numberIn Accepted = 0
+numberIn (Refused refusal) = numberOf refusal
 
-pub word-tells : (refusal : Refusal) → Placed (Refused refusal) → Tells (wordOf (Refused refusal)) refusal
-word-tells refusal placed =
-    record { number = omega arith; place = omega arith; not-accepted = λ e. omega (arith, numbers refusal) }
+abbrev placeIn : Answer → ℕ
+placeIn Accepted = 0
+placeIn (Refused refusal) = placeOf refusal
+
+-- a caller takes the word apart, and no refusal has number 0
+pub record Tells (word periods : ℕ) (answered : Answer) : Type 0 where
+  pub count : word / ANSWERS ≡ periods
+  pub number : word / PLACES % 256 ≡ numberIn answered
+  pub place : word % PLACES ≡ placeIn answered
+  pub accepted : word / PLACES % 256 ≡ 0 → answered ≡ Accepted
+
+pub word-tells : (count : ℕ) (answered : Answer) → Placed answered → Tells (wordOf count answered) count answered
+word-tells count Accepted placed =
+    record { count = omega arith; number = omega arith; place = omega arith; accepted = λ e. refl }
+word-tells count (Refused refusal) placed =
+    record {
+      count = omega (arith, numbers refusal);
+      number = omega (arith, numbers refusal);
+      place = omega arith;
+      accepted = λ e. absurd (omega (arith, numbers refusal));
+    }
 
 -- an answer that equals one whose place fits
 pub fits-as : {a b : Answer} → a ≡ b → Placed b → Placed a
@@ -77,37 +96,25 @@ fits-as e fits = rw e fits
 
 -- Periods, runs and re-cuts
 
-pub period-called : {way : Sharing} {c : Corridor} {demand sheet stateLeft sheetLeft : List ℕ} {a : Answer} {word : ℕ} → PeriodDone way c demand sheet a stateLeft sheetLeft → word ≡ wordOf a → PeriodCalled way c demand sheet word stateLeft sheetLeft
-period-called done e =
-    record {
-      answered = e ∙ ap wordOf (done .answered);
-      leaves = record { answered = refl; leavesState = done .leavesState; leavesSheet = done .leavesSheet };
-    }
-
-pub recut-called : {old : Corridor} {pieces new list left : List ℕ} {a : Answer} {word : ℕ} → RecutDone old pieces new list a left → word ≡ wordOf a → RecutCalled old pieces new list word left
-recut-called done e =
-    record { answered = e ∙ ap wordOf (done .answered); leaves = record { answered = refl; leaves = done .leaves } }
-
-one-stored : (list : List ℕ) (x : ℕ) → length list ≡ 1 → set list 0 x ≡ x ∷ []
-one-stored [] x e = absurd (omega (arith, e))
-one-stored (a ∷ []) x e = refl
-one-stored (a ∷ b ∷ rest) x e = absurd (omega (arith, e))
-
-module _ (way : Sharing) (c : Corridor) (demand sheet periods : List ℕ) where
-  pub periods-refused : (length periods ≡ 1 → ⊥) → {word : ℕ} → word ≡ wordOf (Refused Length) → RunCalled way c demand sheet periods word (c .state) sheet periods
-  periods-refused none e =
-      let other = ne-eqb (length periods) 1 none in
-      record { answered = rw other e; leavesState = rw other; leavesSheet = rw other; leavesPeriods = rw other }
-
-  pub run-called : length periods ≡ 1 → {ran : Ran} {stateLeft sheetLeft : List ℕ} {word : ℕ} → RunDone way c demand sheet ran stateLeft sheetLeft → word ≡ wordOf (ran .answer) → RunCalled way c demand sheet periods word stateLeft sheetLeft (set periods 0 (ran .periods))
-  run-called one {ran} done e =
-      let same = eq-eqb (length periods) 1 one in
+module _ {way : Sharing} {c : Corridor} {demand sheet stateLeft sheetLeft : List ℕ} {word : ℕ} where
+  pub period-called : {a : Answer} → PeriodDone way c demand sheet a stateLeft sheetLeft → word ≡ wordOf 0 a → PeriodCalled way c demand sheet word stateLeft sheetLeft
+  period-called done e =
       record {
-        answered = rw same (e ∙ ap wordOf (done .answered));
-        leavesState = rw same (done .leavesState);
-        leavesSheet = rw same (done .leavesSheet);
-        leavesPeriods = rw same (one-stored periods (ran .periods) one ∙ ap (λ x. x ∷ []) (done .periods));
+        answered = e ∙ ap (wordOf 0) (done .answered);
+        leaves = record { answered = refl; leavesState = done .leavesState; leavesSheet = done .leavesSheet };
       }
+
+  pub run-called : {ran : Ran} → RunDone way c demand sheet ran stateLeft sheetLeft → word ≡ wordOf (ran .periods) (ran .answer) → RunCalled way c demand sheet word stateLeft sheetLeft
+  run-called done e =
+      record {
+        answered = rw (← done .periods, ← done .answered) e;
+        leaves =
+            record { periods = refl; answered = refl; leavesState = done .leavesState; leavesSheet = done .leavesSheet };
+      }
+
+pub recut-called : {old : Corridor} {pieces new list left : List ℕ} {a : Answer} {word : ℕ} → RecutDone old pieces new list a left → word ≡ wordOf 0 a → RecutCalled old pieces new list word left
+recut-called done e =
+    record { answered = e ∙ ap (wordOf 0) (done .answered); leaves = record { answered = refl; leaves = done .leaves } }
 
 -- Calibrations
 
@@ -137,7 +144,7 @@ calibrated-by Accepted diagram values e = (refl, (cc, cc))
 calibrated-by (Refused r) diagram values e = (cc, (cc, cc))
 
 module _ (settings : Settings) (flow occupancy diagram : List Float) (row : List ℕ) {fits : Bool} (test : fits ≡ resultsFit diagram row) where
-  pub results-refused : not fits ≡ true → {word : ℕ} → word ≡ wordOf (Refused Length) → CalibrateCalled settings flow occupancy diagram row word diagram row
+  pub results-refused : not fits ≡ true → {word : ℕ} → word ≡ wordOf 0 (Refused Length) → CalibrateCalled settings flow occupancy diagram row word diagram row
   results-refused fails e =
       let none = sym test ∙ not-true _ fails in
       record { answered = rw none e; leavesDiagram = rw none; leavesRow = rw none }
@@ -160,7 +167,7 @@ module _ (settings : Settings) (flow occupancy diagram : List Float) (row : List
       pub refusal-placed : {refusal : Refusal} → found ≡ NotCalibrated refusal → Placed (Refused refusal)
       refusal-placed e = fits-as (refusal-is e) (calibration-placed settings flow occupancy)
 
-      pub calibrate-refused : {refusal : Refusal} {word : ℕ} → found ≡ NotCalibrated refusal → word ≡ wordOf (Refused refusal) → CalibrateCalled settings flow occupancy diagram row word diagram row
+      pub calibrate-refused : {refusal : Refusal} {word : ℕ} → found ≡ NotCalibrated refusal → word ≡ wordOf 0 (Refused refusal) → CalibrateCalled settings flow occupancy diagram row word diagram row
       calibrate-refused e w =
           record {
             answered = rw (fit, ← refusal-is e) w;

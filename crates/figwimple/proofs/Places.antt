@@ -30,14 +30,14 @@ use Rattle.calibrate_rows.specs.Rows.{valuesFit}
 use Rattle.calibrate_fit.specs.declared.Settings.{Settings}
 use Rattle.calibrate_fit.specs.Calibration.{lengthsFit, samplesUsable, diagramFits, fittedValues, calibrationChecks}
 use Rattle.calibrate_fit.proofs.Answers.{lengths-fit}
-use Rattle.figwimple.specs.Words.{HALF}
+use Rattle.figwimple.specs.Words.{PLACES}
 use Rattle.figwimple.specs.Private.{Placed}
 use Rattle.layout.specs.Corridor.{Corridor, cellsOf}
 
 -- each refusal of each check has a place that fits
 abbrev Each : List Check → Type 0
 Each [] = Unit
-Each (check ∷ checks) = ((i : ℕ) → i < check .places → placeOf (check .refusal i) < HALF) × Each checks
+Each (check ∷ checks) = ((i : ℕ) → i < check .places → placeOf (check .refusal i) < PLACES) × Each checks
 
 -- then so has the answer
 placed : (checks : List Check) → Each checks → Placed (answer checks)
@@ -131,7 +131,7 @@ module _ (way : Sharing) (c : Corridor) (demand sheet : List ℕ) where
       by Accepted e fits = rows-placed (checked-fit e .0)
       by (Refused refusal) e fits = fits
 
-  -- the periods completed fit 32 bits
+  -- the periods completed fit their part of a word
   pub few-periods : periodsRun way c demand sheet ≤ 4096
   few-periods = by checked refl
     where

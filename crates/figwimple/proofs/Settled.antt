@@ -33,10 +33,10 @@ pub period-settles : SettlesLists _ period-kinds.ps period-kinds.r (List ℕ × 
 period-settles κs a y z e f p q =
     (settled (p .answered) (q .answered), λ i. (settled (p .leaves .leavesState) (q .leaves .leavesState) i, settled (p .leaves .leavesSheet) (q .leaves .leavesSheet) i))
 
--- state, sheet and the periods completed
-pub run-settles : SettlesLists _ run-kinds.ps run-kinds.r (List ℕ × (List ℕ × List ℕ)) (λ κs e. (now (e .1 .0), (now (e .1 .1 .1 .0), now (e .1 .1 .1 .1 .0)))) run.Learnt
+-- state and sheet
+pub run-settles : SettlesLists _ run-kinds.ps run-kinds.r (List ℕ × List ℕ) (λ κs e. (now (e .1 .0), now (e .1 .1 .1 .0))) run.Learnt
 run-settles κs a y z e f p q =
-    (settled (p .answered) (q .answered), λ i. (settled (p .leavesState) (q .leavesState) i, (settled (p .leavesSheet) (q .leavesSheet) i, settled (p .leavesPeriods) (q .leavesPeriods) i)))
+    (settled (p .answered) (q .answered), λ i. (settled (p .leaves .leavesState) (q .leaves .leavesState) i, settled (p .leaves .leavesSheet) (q .leaves .leavesSheet) i))
 
 -- the new state
 pub recut-settles : SettlesLists _ recut-kinds.ps recut-kinds.r (List ℕ) (λ κs e. now (e .1 .1 .1 .1 .0)) recut.Learnt

@@ -7,36 +7,32 @@ use lib.Dec.{eqb}
 use lib.Ieee.{Float}
 use lib.ListN.{length}
 use Rattle.whole.specs.Search.{pick}
+use Rattle.refusals.specs.declared.Refusal.the-variants.{Length}
 use Rattle.refusals.specs.declared.Answer.{Answer}
+use Rattle.refusals.specs.declared.Answer.the-variants.{Refused}
 use Rattle.refusals.specs.Checks.{answer, whenAccepted}
 use Rattle.layout.specs.Corridor.{Corridor}
 use Rattle.period.specs.Sharing.{Sharing}
 use Rattle.period.specs.Period.{periodChecks, PeriodDone}
-use Rattle.period_run.specs.Run.{periodsRun, runAnswer, corridorAfterPeriods, sheetAfterPeriods}
+use Rattle.period_run.specs.Run.{periodsRun, runAnswer, RunDone}
 use Rattle.recut.specs.Recut.{recutChecks, RecutDone}
 use Rattle.calibrate_fit.specs.declared.Settings.{Settings}
 use Rattle.calibrate_rows.specs.declared.Diagram.{Diagram}
 use Rattle.calibrate_rows.specs.declared.RowNumbers.{RowNumbers}
 use Rattle.calibrate_rows.specs.RowNumbers.{rowNumbers}
 use Rattle.calibrate_fit.specs.Calibration.{calibrationChecks, fittedDiagram, fittedValues}
-use Rattle.figwimple.specs.Words.{wordOf, withLists}
+use Rattle.figwimple.specs.Words.{wordOf}
 
 pub record PeriodCalled (way : Sharing) (c : Corridor) (demand sheet : List ℕ) (word : ℕ) (stateLeft sheetLeft : List ℕ) : Type 0 where
-  pub answered : word ≡ wordOf (answer (periodChecks c demand sheet))
+  pub answered : word ≡ wordOf 0 (answer (periodChecks c demand sheet))
   pub leaves : PeriodDone way c demand sheet (answer (periodChecks c demand sheet)) stateLeft sheetLeft
 
--- the list of the periods completed has length 1; where it has not, every list stays as it came
-abbrev pub periodsFit : List ℕ → Bool
-periodsFit periods = eqb (length periods) 1
-
-pub record RunCalled (way : Sharing) (c : Corridor) (demand sheet periods : List ℕ) (word : ℕ) (stateLeft sheetLeft periodsLeft : List ℕ) : Type 0 where
-  pub answered : word ≡ wordOf (withLists (periodsFit periods) (runAnswer way c demand sheet))
-  pub leavesState : stateLeft ≡ pick (periodsFit periods) (corridorAfterPeriods way c demand (periodsRun way c demand sheet) .state) (c .state)
-  pub leavesSheet : sheetLeft ≡ pick (periodsFit periods) (sheetAfterPeriods way c demand sheet (periodsRun way c demand sheet)) sheet
-  pub leavesPeriods : periodsLeft ≡ pick (periodsFit periods) (periodsRun way c demand sheet ∷ []) periods
+pub record RunCalled (way : Sharing) (c : Corridor) (demand sheet : List ℕ) (word : ℕ) (stateLeft sheetLeft : List ℕ) : Type 0 where
+  pub answered : word ≡ wordOf (periodsRun way c demand sheet) (runAnswer way c demand sheet)
+  pub leaves : RunDone way c demand sheet (record { periods = periodsRun way c demand sheet; answer = runAnswer way c demand sheet }) stateLeft sheetLeft
 
 pub record RecutCalled (old : Corridor) (pieces new list : List ℕ) (word : ℕ) (left : List ℕ) : Type 0 where
-  pub answered : word ≡ wordOf (answer (recutChecks old pieces new list))
+  pub answered : word ≡ wordOf 0 (answer (recutChecks old pieces new list))
   pub leaves : RecutDone old pieces new list (answer (recutChecks old pieces new list)) left
 
 abbrev pub settingsOf : Float → ℕ → ℕ → Float → ℕ → ℕ → Settings
@@ -52,12 +48,16 @@ fourOf numbers = numbers .v ∷ numbers .w ∷ numbers .capacity ∷ numbers .ja
 abbrev pub resultsFit : List Float → List ℕ → Bool
 resultsFit diagram row = eqb (length diagram) 5 && eqb (length row) 4
 
+-- number 1, the lowest, where the lists of results have not their lengths
+abbrev pub withLists : Bool → Answer → Answer
+withLists fit answered = pick fit answered (Refused Length)
+
 -- 1, 9, 10 and 11 of a calibration and of its lists
 abbrev pub calibrateAnswer : Settings → List Float → List Float → List Float → List ℕ → Answer
 calibrateAnswer settings flow occupancy diagram row =
     withLists (resultsFit diagram row) (answer (calibrationChecks settings flow occupancy))
 
 pub record CalibrateCalled (settings : Settings) (flow occupancy diagram : List Float) (row : List ℕ) (word : ℕ) (diagramLeft : List Float) (rowLeft : List ℕ) : Type 0 where
-  pub answered : word ≡ wordOf (calibrateAnswer settings flow occupancy diagram row)
+  pub answered : word ≡ wordOf 0 (calibrateAnswer settings flow occupancy diagram row)
   pub leavesDiagram : diagramLeft ≡ whenAccepted (calibrateAnswer settings flow occupancy diagram row) (fiveOf (fittedDiagram settings flow occupancy)) diagram
   pub leavesRow : rowLeft ≡ whenAccepted (calibrateAnswer settings flow occupancy diagram row) (fourOf (rowNumbers (fittedValues settings flow occupancy))) row

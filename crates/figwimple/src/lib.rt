@@ -1,5 +1,6 @@
-// The library for callers in C, Rust and Python: each function answers one word, 0 for accepted, else number × 2^32 + place, and
-// further results go to lent lists. Every function takes every input.
+// The library for callers in C, Rust and Python: each function answers one word, count × 2^40 + number × 2^32 + place, with
+// number 0 for accepted, and further results go to lent lists. Every function takes every input.
+ghost use Prim.Native.Nat.{_<_};
 ghost use mathlib.Core.Path.{_≡_};
 ghost use lib.ListN.{length};
 ghost use Rattle.refusals.specs.Checks.{answer};
@@ -8,7 +9,7 @@ ghost use Rattle.layout.specs.Corridor.{corridorOf};
 ghost use Rattle.period.specs.Sharing.{asymmetric};
 ghost use Rattle.accept_rows.specs.Acceptance.{stateChecks, rowChecks};
 ghost use Rattle.figwimple.specs.Words.{wordOf};
-ghost use Rattle.figwimple.specs.Private.{Placed};
+ghost use Rattle.figwimple.specs.Private.{COUNTS, Placed};
 ghost use Rattle.figwimple.specs.Calls.{PeriodCalled, RunCalled, RecutCalled, settingsOf, fiveOf, fourOf, resultsFit, CalibrateCalled};
 use calibrate_fit::Calibration;
 use calibrate_fit::Settings;
@@ -17,17 +18,19 @@ use calibrate_rows::RowNumbers;
 use refusals::Answer;
 use refusals::Refusal;
 
-// The word of an answer whose place is below 2^32.
-fn word(answered: Answer) -> u64
+// The word of a count below 2^24 and of an answer whose place is below 2^32.
+fn word(count: usize, answered: Answer) -> u64
+    requires { ⌜ count < COUNTS ⌝ }
     requires { ⌜ Placed answered ⌝ }
-    ensures { λ r. ⌜ r ≡ wordOf answered ⌝ }
+    ensures { λ r. ⌜ r ≡ wordOf count answered ⌝ }
 {
+    let counted = count as u64 * 1_099_511_627_776;
     match answered {
-        Answer::Accepted => 0,
+        Answer::Accepted => counted,
         Answer::Refused(refusal) => {
             let number = refusals::number(refusal) as u64;
             let place = refusals::place(refusal) as u64;
-            number * 4_294_967_296 + place
+            counted + number * 4_294_967_296 + place
         }
     }
 }
@@ -35,25 +38,25 @@ fn word(answered: Answer) -> u64
 // Whether a table is accepted: numbers 1 to 4.
 #[no_mangle]
 pub extern "C" fn figwimple_accept_table(table: &[u32]) -> u64
-    ensures { λ r. ⌜ r ≡ wordOf (answer (tableChecks (now (table .entry)))) ⌝ }
+    ensures { λ r. ⌜ r ≡ wordOf 0 (answer (tableChecks (now (table .entry)))) ⌝ }
 {
-    word(accept_tables::accept_table(table))
+    word(0, accept_tables::accept_table(table))
 }
 
 // Whether a state is accepted under a table: numbers 1 to 5.
 #[no_mangle]
 pub extern "C" fn figwimple_accept_state(table: &[u32], state: &[u32]) -> u64
-    ensures { λ r. ⌜ r ≡ wordOf (answer (stateChecks (corridorOf (now (table .entry)) (now (state .entry))))) ⌝ }
+    ensures { λ r. ⌜ r ≡ wordOf 0 (answer (stateChecks (corridorOf (now (table .entry)) (now (state .entry))))) ⌝ }
 {
-    word(accept_rows::accept_state(table, state))
+    word(0, accept_rows::accept_state(table, state))
 }
 
 // Whether a demand row is accepted under a table and a state: numbers 1 to 7.
 #[no_mangle]
 pub extern "C" fn figwimple_accept_row(table: &[u32], state: &[u32], demand: &[u32]) -> u64
-    ensures { λ r. ⌜ r ≡ wordOf (answer (rowChecks (corridorOf (now (table .entry)) (now (state .entry))) (now (demand .entry)))) ⌝ }
+    ensures { λ r. ⌜ r ≡ wordOf 0 (answer (rowChecks (corridorOf (now (table .entry)) (now (state .entry))) (now (demand .entry)))) ⌝ }
 {
-    word(accept_rows::accept_row(table, state, demand))
+    word(0, accept_rows::accept_row(table, state, demand))
 }
 
 // One period: numbers 1 to 7.
@@ -66,27 +69,22 @@ pub extern "C" fn figwimple_period(
 ) -> u64
     ensures { λ r. ⌜ PeriodCalled asymmetric (corridorOf (now (table .entry)) (now (state .entry))) (now (demand .entry)) (now (sheet .entry)) r (now (state .exit)) (now (sheet .exit)) ⌝ }
 {
-    word(period::period(table, state, demand, sheet))
+    word(0, period::period(table, state, demand, sheet))
 }
 
-// A run of demand rows end to end: numbers 1 to 5, then 6 and 7 at each row. The periods completed go to a list of length 1.
+// A run of demand rows end to end: numbers 1 to 5, then 6 and 7 at each row. It counts the periods completed, refused or not.
 #[no_mangle]
 pub extern "C" fn figwimple_run(
     table: &[u32],
     state: &mut [u32],
     demand: &[u32],
     sheet: &mut [u32],
-    periods: &mut [u32],
 ) -> u64
-    ensures { λ r. ⌜ RunCalled asymmetric (corridorOf (now (table .entry)) (now (state .entry))) (now (demand .entry)) (now (sheet .entry)) (now (periods .entry)) r (now (state .exit)) (now (sheet .exit)) (now (periods .exit)) ⌝ }
+    ensures { λ r. ⌜ RunCalled asymmetric (corridorOf (now (table .entry)) (now (state .entry))) (now (demand .entry)) (now (sheet .entry)) r (now (state .exit)) (now (sheet .exit)) ⌝ }
 {
-    if periods.len() != 1 {
-        return word(Answer::Refused(Refusal::Length));
-    }
     let ran = period_run::run(table, state, demand, sheet);
-    periods[0] = ran.periods as u32;
     let answered = ran.answer;
-    word(answered)
+    word(ran.periods, answered)
 }
 
 // The re-cut of a table and a state into a new table: numbers 1 to 5 and 8. The new state goes to a list of its own.
@@ -100,7 +98,7 @@ pub extern "C" fn figwimple_recut(
 ) -> u64
     ensures { λ r. ⌜ RecutCalled (corridorOf (now (old .entry)) (now (state .entry))) (now (pieces .entry)) (now (new .entry)) (now (list .entry)) r (now (list .exit)) ⌝ }
 {
-    word(recut::recut(old, state, pieces, new, list))
+    word(0, recut::recut(old, state, pieces, new, list))
 }
 
 // Stores the five doubles of a diagram.
@@ -150,7 +148,7 @@ pub extern "C" fn figwimple_calibrate(
     ensures { λ r. ⌜ CalibrateCalled (settingsOf g lanes t l start end) (now (flow .entry)) (now (occupancy .entry)) (now (diagram .entry)) (now (row .entry)) r (now (diagram .exit)) (now (row .exit)) ⌝ }
 {
     if !results_fit(diagram, row) {
-        return word(Answer::Refused(Refusal::Length));
+        return word(0, Answer::Refused(Refusal::Length));
     }
     let settings = Settings {
         g,
@@ -162,7 +160,7 @@ pub extern "C" fn figwimple_calibrate(
     };
     let found = calibrate_fit::calibrate(flow, occupancy, settings);
     match found {
-        Calibration::NotCalibrated(refusal) => word(Answer::Refused(refusal)),
+        Calibration::NotCalibrated(refusal) => word(0, Answer::Refused(refusal)),
         Calibration::Calibrated(fitted, numbers) => {
             put_diagram(fitted, diagram);
             put_row(numbers, row);

@@ -129,7 +129,7 @@ fn example(periods: usize) -> Corridor {
     let state = read_whole(state, width).expect("the example's state is read");
     let morning = read_whole(demand, width).expect("the example's demand is read");
     let demand = morning.into_iter().cycle().take(periods * width).collect();
-    Corridor { table, state, demand, sheet, periods: vec![0] }
+    Corridor { table, state, demand, sheet }
 }
 
 /// A run over a road of any size that is accepted to its end.
@@ -140,7 +140,7 @@ fn corridor(rng: &mut Rng, cells: usize, periods: usize) -> Corridor {
     for (count, row) in state[1..=cells].iter_mut().zip(table.chunks(COLUMNS)) {
         *count = rng.within(0, row[3]);
     }
-    Corridor { table, state, demand, sheet: vec![0; sheet_length(cells)], periods: vec![0] }
+    Corridor { table, state, demand, sheet: vec![0; sheet_length(cells)] }
 }
 
 fn calibration(rng: &mut Rng) -> Calibrate {
@@ -175,15 +175,15 @@ fn run_works(case: &Corridor) -> Works {
     assert!(with_model == ends(model::run_indexed), "the run by indexes does what the model does");
 
     let [rust, proved] = through(|face| {
-        let Corridor { table, state, demand, sheet, periods } = case.clone();
-        let (mut moving, mut sheet, mut periods) = (state.clone(), sheet, periods);
+        let Corridor { table, state, demand, mut sheet } = case.clone();
+        let mut moving = state.clone();
         Box::new(move || {
             moving.copy_from_slice(&state);
-            black_box(face.run(black_box(&table), &mut moving, black_box(&demand), &mut sheet, &mut periods));
+            black_box(face.run(black_box(&table), &mut moving, black_box(&demand), &mut sheet));
         })
     });
     let by = |run: Run| -> Work {
-        let Corridor { table, state, demand, mut sheet, .. } = case.clone();
+        let Corridor { table, state, demand, mut sheet } = case.clone();
         let mut moving = state.clone();
         Box::new(move || {
             moving.copy_from_slice(&state);
@@ -195,7 +195,7 @@ fn run_works(case: &Corridor) -> Works {
 
 fn period_works(case: &Corridor) -> Works {
     let [rust, proved] = through(|face| {
-        let Corridor { table, state, demand, mut sheet, .. } = case.clone();
+        let Corridor { table, state, demand, mut sheet } = case.clone();
         let mut moving = state.clone();
         Box::new(move || {
             moving.copy_from_slice(&state);

@@ -313,7 +313,7 @@ fn any_corridor(rng: &mut Rng, depth: usize) -> Corridor {
             _ => damage_demand(rng, table.len() / COLUMNS, &mut demand),
         }
     }
-    Corridor { table, state, demand, sheet, periods: Vec::new() }
+    Corridor { table, state, demand, sheet }
 }
 
 /// A run; many are refused part way.
@@ -337,24 +337,22 @@ fn any_run(rng: &mut Rng) -> Corridor {
         demand.extend(row);
     }
     let mut sheet = any_contents(rng, sheet_length(cells));
-    let mut one = any_contents(rng, 1);
     if periods > 0 && rng.once_in(3) {
         let row = state_length(cells);
         let at = rng.below(periods) * row;
         damage_demand(rng, cells, &mut demand[at..at + row]);
     }
     if rng.once_in(8) {
-        match rng.below(7) {
+        match rng.below(6) {
             0 => damage_length(rng, &mut table),
             1 => damage_length(rng, &mut state),
             2 => damage_length(rng, &mut demand),
             3 => damage_length(rng, &mut sheet),
-            4 => damage_length(rng, &mut one),
-            5 => damage_table(rng, &mut table),
+            4 => damage_table(rng, &mut table),
             _ => damage_state(rng, &table, &mut state),
         }
     }
-    Corridor { table, state, demand, sheet, periods: one }
+    Corridor { table, state, demand, sheet }
 }
 
 /// A re-cut with the new table made from the old one, then damaged more often than not.

@@ -34,7 +34,6 @@ pub struct Corridor {
     pub state: Vec<u32>,
     pub demand: Vec<u32>,
     pub sheet: Vec<u32>,
-    pub periods: Vec<u32>,
 }
 
 #[derive(Clone, Debug, PartialEq)]
@@ -71,8 +70,16 @@ impl Outcome {
     /// The refusal number, 0 for accepted.
     pub fn number(&self) -> u32 {
         match self {
-            Outcome::Lists { word, .. } => (word >> 32) as u32,
+            Outcome::Lists { word, .. } => (word >> 32) as u32 % 256,
             Outcome::Output(text) => refusal_line(text).map_or(0, |line| line[2]),
+        }
+    }
+
+    /// What a word counts, the periods that a run completed; 0 for the program.
+    pub fn count(&self) -> u32 {
+        match self {
+            Outcome::Lists { word, .. } => (word >> 40) as u32,
+            Outcome::Output(_) => 0,
         }
     }
 
@@ -105,15 +112,15 @@ impl Case {
             Case::Table(Corridor { table, .. }) => lists(face.accept_table(table), &[]),
             Case::State(Corridor { table, state, .. }) => lists(face.accept_state(table, state), &[]),
             Case::Row(Corridor { table, state, demand, .. }) => lists(face.accept_row(table, state, demand), &[]),
-            Case::Period(Corridor { table, state, demand, sheet, .. }) => {
+            Case::Period(Corridor { table, state, demand, sheet }) => {
                 let (mut state, mut sheet) = (state.clone(), sheet.clone());
                 let word = face.period(table, &mut state, demand, &mut sheet);
                 lists(word, &[&state, &sheet])
             }
-            Case::Run(Corridor { table, state, demand, sheet, periods }) => {
-                let (mut state, mut sheet, mut periods) = (state.clone(), sheet.clone(), periods.clone());
-                let word = face.run(table, &mut state, demand, &mut sheet, &mut periods);
-                lists(word, &[&state, &sheet, &periods])
+            Case::Run(Corridor { table, state, demand, sheet }) => {
+                let (mut state, mut sheet) = (state.clone(), sheet.clone());
+                let word = face.run(table, &mut state, demand, &mut sheet);
+                lists(word, &[&state, &sheet])
             }
             Case::Recut(Recut { old_table, old_state, pieces, new_table, new_state }) => {
                 let mut new_state = new_state.clone();
@@ -147,9 +154,8 @@ impl fmt::Display for Case {
     fn fmt(&self, out: &mut fmt::Formatter<'_>) -> fmt::Result {
         let corridor = |out: &mut fmt::Formatter<'_>, name: &str, lists: usize, case: &Corridor| {
             writeln!(out, "{name}")?;
-            let Corridor { table, state, demand, sheet, periods } = case;
-            let named =
-                [("table", table), ("state", state), ("demand", demand), ("sheet", sheet), ("periods", periods)];
+            let Corridor { table, state, demand, sheet } = case;
+            let named = [("table", table), ("state", state), ("demand", demand), ("sheet", sheet)];
             named.into_iter().take(lists).try_for_each(|(name, list)| write_list(out, name, list))
         };
         match self {
@@ -157,7 +163,7 @@ impl fmt::Display for Case {
             Case::State(case) => corridor(out, "accept_state", 2, case),
             Case::Row(case) => corridor(out, "accept_row", 3, case),
             Case::Period(case) => corridor(out, "period", 4, case),
-            Case::Run(case) => corridor(out, "run", 5, case),
+            Case::Run(case) => corridor(out, "run", 4, case),
             Case::Recut(case) => {
                 writeln!(out, "recut")?;
                 write_list(out, "old_table", &case.old_table)?;
@@ -193,9 +199,10 @@ impl fmt::Display for Outcome {
         match self {
             Outcome::Lists { lists, doubles, .. } => {
                 match self.number() {
-                    0 => writeln!(out, "  accepted")?,
-                    number => writeln!(out, "  refused {number} at {}", self.place())?,
+                    0 => write!(out, "  accepted")?,
+                    number => write!(out, "  refused {number} at {}", self.place())?,
                 }
+                writeln!(out, ", count {}", self.count())?;
                 lists.iter().try_for_each(|list| write_list(out, "after", list))?;
                 if !doubles.is_empty() {
                     let doubles: Vec<f64> = doubles.iter().map(|&bits| f64::from_bits(bits)).collect();

@@ -72,9 +72,13 @@ fn without_rows(table: &[u32], range: &std::ops::Range<usize>) -> Vec<u32> {
     [&table[..from], &table[to..]].concat()
 }
 
-/// The case with one number of one of its five lists made smaller.
-fn smaller_numbers<C: Clone>(whole: C, list_of: fn(&mut C, usize) -> &mut Vec<u32>) -> impl Iterator<Item = C> {
-    (0..5).flat_map(move |list| {
+/// The case with one number of one of its lists made smaller.
+fn smaller_numbers<C: Clone>(
+    whole: C,
+    lists: usize,
+    list_of: fn(&mut C, usize) -> &mut Vec<u32>,
+) -> impl Iterator<Item = C> {
+    (0..lists).flat_map(move |list| {
         let whole = whole.clone();
         let length = list_of(&mut whole.clone(), list).len();
         (0..length).flat_map(move |at| {
@@ -105,9 +109,8 @@ fn smaller_corridor(case: Corridor) -> impl Iterator<Item = Corridor> {
             _ => whole.demand.clone(),
         },
         sheet: without_cells(&whole.sheet, cells, 4, &range),
-        periods: whole.periods.clone(),
     });
-    fewer_rows.chain(fewer_cells).chain(smaller_numbers(case, corridor_list))
+    fewer_rows.chain(fewer_cells).chain(smaller_numbers(case, 4, corridor_list))
 }
 
 fn corridor_list(case: &mut Corridor, list: usize) -> &mut Vec<u32> {
@@ -115,8 +118,7 @@ fn corridor_list(case: &mut Corridor, list: usize) -> &mut Vec<u32> {
         0 => &mut case.table,
         1 => &mut case.state,
         2 => &mut case.demand,
-        3 => &mut case.sheet,
-        _ => &mut case.periods,
+        _ => &mut case.sheet,
     }
 }
 
@@ -146,7 +148,7 @@ fn smaller_recut(case: Recut) -> impl Iterator<Item = Recut> {
         new_state: without_cells(&whole.new_state, new_cells, 2, &range),
         ..whole.clone()
     });
-    fewer_old.chain(fewer_new).chain(smaller_numbers(case, recut_list))
+    fewer_old.chain(fewer_new).chain(smaller_numbers(case, 5, recut_list))
 }
 
 fn recut_list(case: &mut Recut, list: usize) -> &mut Vec<u32> {

@@ -109,16 +109,12 @@ fn same(
 
 /// What the C yardstick does with a run.
 fn yardstick_outcome(case: &Case) -> Option<Outcome> {
-    let Case::Run(Corridor { table, state, demand, sheet, periods }) = case else {
+    let Case::Run(Corridor { table, state, demand, sheet }) = case else {
         return None;
     };
-    if periods.len() != 1 {
-        return None;
-    }
     let (mut state, mut sheet) = (state.clone(), sheet.clone());
-    let answer = yardstick::run(table, &mut state, demand, &mut sheet);
-    let lists = vec![state, sheet, vec![answer.periods]];
-    Some(Outcome::Lists { word: Refusal::word(&answer.answer), lists, doubles: Vec::new() })
+    let word = yardstick::run(table, &mut state, demand, &mut sheet).to_word();
+    Some(Outcome::Lists { word, lists: vec![state, sheet], doubles: Vec::new() })
 }
 
 /// No vehicle comes from nowhere or goes there, in an accepted period and in an accepted re-cut; and what is left behind is
@@ -141,10 +137,8 @@ fn check_balance(case: &Case, outcome: &Outcome) -> Result<(), String> {
     if before != after {
         return Err(format!("{before} thousandths before, {after} after"));
     }
-    match model::Model.accept_state(table, state) {
-        0 => Ok(()),
-        word => Err(format!("the state left behind is refused {} at {}", word >> 32, word as u32)),
-    }
+    let left = Refusal::from_word(model::Model.accept_state(table, state));
+    left.map_err(|refusal| format!("the state left behind is {refusal}"))
 }
 
 fn kind(case: &Case) -> usize {
@@ -177,9 +171,7 @@ impl Counts {
         let number = outcome.number() as usize;
         self.numbers[kind(case)][number] += 1;
         match (case, outcome) {
-            (Case::Run(_), Outcome::Lists { word: 1.., lists, .. }) if lists[2].first().is_some_and(|&k| k > 0) => {
-                self.part_way[0] += u64::from(number > 1);
-            }
+            (Case::Run(_), _) if number > 0 => self.part_way[0] += u64::from(outcome.count() > 0),
             (Case::Program(_), Outcome::Output(text)) if number > 0 => {
                 let lines = text.iter().filter(|&&byte| byte == b'\n').count();
                 self.part_way[1] += u64::from(lines > 2);

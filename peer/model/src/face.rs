@@ -1,9 +1,10 @@
 //! The functions as the C interface has them: slices and numbers in, one word out.
 
-use crate::{accept_row, accept_state, accept_table, calibrate, period, recut, run, Refusal, RunAnswer, Settings};
+use crate::{accept_row, accept_state, accept_table, calibrate, period, recut, run, Refusal, Settings};
 
-/// An implementation of the model behind the C interface. Each function answers 0 for accepted, else number·2^32 + place;
-/// further results go to lent lists, and one of the wrong length is number 1.
+/// An implementation of the model behind the C interface. Each function answers count·2^40 + number·2^32 + place,
+/// with number 0 for accepted; the count is of the periods that a run completed, else 0. Further results go to lent lists,
+/// and one of the wrong length is number 1.
 pub trait Face {
     fn accept_table(&self, table: &[u32]) -> u64;
 
@@ -13,9 +14,8 @@ pub trait Face {
 
     fn period(&self, table: &[u32], state: &mut [u32], demand: &[u32], sheet: &mut [u32]) -> u64;
 
-    /// `periods`, of length 1, gets the periods completed: 0 as well where 1 to 5 refuse the run. A list of another
-    /// length stays as it is.
-    fn run(&self, table: &[u32], state: &mut [u32], demand: &[u32], sheet: &mut [u32], periods: &mut [u32]) -> u64;
+    /// The periods completed are counted whether the run is refused or not.
+    fn run(&self, table: &[u32], state: &mut [u32], demand: &[u32], sheet: &mut [u32]) -> u64;
 
     fn recut(
         &self,
@@ -58,13 +58,8 @@ impl Face for Model {
         Refusal::word(&period(table, state, demand, sheet))
     }
 
-    fn run(&self, table: &[u32], state: &mut [u32], demand: &[u32], sheet: &mut [u32], periods: &mut [u32]) -> u64 {
-        let [completed] = periods else {
-            return Refusal::SHAPE.to_word();
-        };
-        let RunAnswer { periods, answer } = run(table, state, demand, sheet);
-        *completed = periods;
-        Refusal::word(&answer)
+    fn run(&self, table: &[u32], state: &mut [u32], demand: &[u32], sheet: &mut [u32]) -> u64 {
+        run(table, state, demand, sheet).to_word()
     }
 
     fn recut(

@@ -1,7 +1,7 @@
 //! One period of the model, and a run of periods.
 
 use crate::corridor::{row_rules, rows, shape, state_rules, table_rules, Cell, Rows};
-use crate::{sheet_length, state_length, Answer, MOST_PERIODS, ONE};
+use crate::{sheet_length, state_length, Answer, Refusal, MOST_PERIODS, ONE};
 
 /// `share` over ONE of `vehicles`, rounded down.
 #[inline]
@@ -132,6 +132,17 @@ pub fn period(table: &[u32], state: &mut [u32], demand: &[u32], sheet: &mut [u32
 pub struct RunAnswer {
     pub periods: u32,
     pub answer: Answer,
+}
+
+impl RunAnswer {
+    /// The periods times 2^40 plus the answer's word.
+    pub fn to_word(self) -> u64 {
+        u64::from(self.periods) << 40 | Refusal::word(&self.answer)
+    }
+
+    pub fn from_word(word: u64) -> RunAnswer {
+        RunAnswer { periods: (word >> 40) as u32, answer: Refusal::from_word(word) }
+    }
 }
 
 /// A run over demand rows laid end to end, 0 to 4,096 of them.

@@ -23,7 +23,7 @@ impl Refusal {
         u64::from(self.number) << 32 | u64::from(self.place)
     }
 
-    /// One word for an answer: 0 when accepted, else the refusal's.
+    /// One word for an answer without a count: 0 when accepted, else the refusal's.
     pub fn word<T>(answer: &Answer<T>) -> u64 {
         match answer {
             Ok(_) => 0,
@@ -31,11 +31,11 @@ impl Refusal {
         }
     }
 
-    /// The answer that a word stands for.
+    /// The answer that a word stands for, whatever its count.
     pub fn from_word(word: u64) -> Answer {
-        match word {
+        match (word >> 32) as u32 % 256 {
             0 => Ok(()),
-            _ => Err(Refusal { number: (word >> 32) as u32, place: word as u32 }),
+            number => Err(Refusal { number, place: word as u32 }),
         }
     }
 }

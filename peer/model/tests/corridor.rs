@@ -249,6 +249,7 @@ fn runs() {
     let (mut run_state, mut run_sheet) = (start, [0; 13]);
     let answer = run(&table, &mut run_state, &rows.concat(), &mut run_sheet);
     assert_eq!(answer, RunAnswer { periods: 30, answer: Ok(()) });
+    assert_eq!(answer.to_word(), 30 << 40);
     assert_eq!((run_state, run_sheet), (state, sheet));
 
     // Refused at a row: the state and the sheet are those of the rows before it.
@@ -258,6 +259,8 @@ fn runs() {
     let (mut run_state, mut run_sheet) = (start, [0; 13]);
     let answer = run(&table, &mut run_state, &damaged, &mut run_sheet);
     assert_eq!(answer, RunAnswer { periods: 30, answer: refused(6, 1) });
+    assert_eq!(answer.to_word(), (30 << 40) + (6 << 32) + 1);
+    assert_eq!(RunAnswer::from_word(answer.to_word()), answer);
     assert_eq!((run_state, run_sheet), (state, sheet));
 }
 

@@ -31,8 +31,7 @@ mod linked {
             demand: *const u32, demand_length: usize, sheet: *mut u32, sheet_length: usize) -> u64;
         fn figwimple_run(
             table: *const u32, table_length: usize, state: *mut u32, state_length: usize,
-            demand: *const u32, demand_length: usize, sheet: *mut u32, sheet_length: usize,
-            periods: *mut u32, periods_length: usize) -> u64;
+            demand: *const u32, demand_length: usize, sheet: *mut u32, sheet_length: usize) -> u64;
         fn figwimple_recut(
             old_table: *const u32, old_table_length: usize, old_state: *const u32, old_state_length: usize,
             pieces: *const u32, pieces_length: usize, new_table: *const u32, new_table_length: usize,
@@ -73,14 +72,11 @@ mod linked {
             }
         }
 
-        fn run(
-            &self, table: &[u32], state: &mut [u32], demand: &[u32], sheet: &mut [u32], periods: &mut [u32],
-        ) -> u64 {
+        fn run(&self, table: &[u32], state: &mut [u32], demand: &[u32], sheet: &mut [u32]) -> u64 {
             unsafe {
                 figwimple_run(
                     table.as_ptr(), table.len(), state.as_mut_ptr(), state.len(),
-                    demand.as_ptr(), demand.len(), sheet.as_mut_ptr(), sheet.len(),
-                    periods.as_mut_ptr(), periods.len())
+                    demand.as_ptr(), demand.len(), sheet.as_mut_ptr(), sheet.len())
             }
         }
 

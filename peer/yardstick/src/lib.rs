@@ -10,7 +10,6 @@ extern "C" {
         demand: *const u32,
         rows: usize,
         sheet: *mut u32,
-        periods: *mut u32,
     ) -> u64;
 }
 
@@ -29,7 +28,6 @@ pub fn run(table: &[u32], state: &mut [u32], demand: &[u32], sheet: &mut [u32]) 
         return RunAnswer { periods: 0, answer };
     }
 
-    let mut periods = 0;
     // SAFETY: the lists have the lengths that the C code goes by, N is at most 512, the mutable lists are not shared, and
     // the table and the state are in their ranges, so that no count or index leaves its list.
     let word = unsafe {
@@ -40,8 +38,7 @@ pub fn run(table: &[u32], state: &mut [u32], demand: &[u32], sheet: &mut [u32]) 
             demand.as_ptr(),
             demand.len() / row,
             sheet.as_mut_ptr(),
-            &mut periods,
         )
     };
-    RunAnswer { periods, answer: Refusal::from_word(word) }
+    RunAnswer::from_word(word)
 }

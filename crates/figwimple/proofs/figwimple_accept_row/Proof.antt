@@ -1,5 +1,6 @@
 -- `figwimple::figwimple_accept_row` meets its contract. Assumes nothing.
 use borrow.Author.Needs.{needs}
+use native.Mathlib.Omega.{arith}
 use mathlib.Core.Path.{ap, _∙_}
 use Rattle.figwimple.specs.Words.{wordOf}
 use Rattle.layout.specs.Corridor.{corridorOf}
@@ -11,10 +12,10 @@ use Rattle.figwimple.proofs.figwimple_accept_row.Tie as tie
 word-requires : tie.Need-word-requires
 word-requires c κs =
     let lists = c .before .before .before .before .args in
-    fits-as (c .accept-row .ensures) (row-placed (corridorOf (lists .table .now) (lists .state .now)) (lists .demand .now))
+    (omega arith, fits-as (c .accept-row .ensures) (row-placed (corridorOf (lists .table .now) (lists .state .now)) (lists .demand .now)))
 
 returns : tie.Need-returns
-returns c = c .word .ensures ∙ ap wordOf (c .before .accept-row .ensures)
+returns c = c .word .ensures ∙ ap (wordOf 0) (c .before .accept-row .ensures)
 
 pub figwimple-accept-row-spec : {M : Type 1} → statement M
 figwimple-accept-row-spec = tie.close (tie.spec (λ c κs. search needs) word-requires returns)

@@ -1,5 +1,6 @@
 -- `figwimple::figwimple_accept_state` meets its contract. Assumes nothing.
 use borrow.Author.Needs.{needs}
+use native.Mathlib.Omega.{arith}
 use mathlib.Core.Path.{ap, _∙_}
 use Rattle.figwimple.specs.Words.{wordOf}
 use Rattle.layout.specs.Corridor.{corridorOf}
@@ -11,10 +12,10 @@ use Rattle.figwimple.proofs.figwimple_accept_state.Tie as tie
 word-requires : tie.Need-word-requires
 word-requires c κs =
     let lists = c .before .before .before .args in
-    fits-as (c .accept-state .ensures) (state-placed (corridorOf (lists .table .now) (lists .state .now)))
+    (omega arith, fits-as (c .accept-state .ensures) (state-placed (corridorOf (lists .table .now) (lists .state .now))))
 
 returns : tie.Need-returns
-returns c = c .word .ensures ∙ ap wordOf (c .before .accept-state .ensures)
+returns c = c .word .ensures ∙ ap (wordOf 0) (c .before .accept-state .ensures)
 
 pub figwimple-accept-state-spec : {M : Type 1} → statement M
 figwimple-accept-state-spec = tie.close (tie.spec (λ c κs. search needs) word-requires returns)

@@ -1,5 +1,6 @@
 -- `figwimple::figwimple_calibrate` meets its contract. Assumes nothing.
 use borrow.Author.Needs.{needs}
+use native.Mathlib.Omega.{arith}
 use Rattle.calibrate_fit.specs.declared.Settings.{Settings}
 use Rattle.figwimple.specs.Calls.{settingsOf}
 use Rattle.figwimple.proofs.Called.{results-refused, diagram-length, row-length, refusal-placed, calibrate-refused, calibrate-done}
@@ -25,9 +26,11 @@ word-requires-2 : tie.Need-word-requires-2
 word-requires-2 c κs =
     let called = c .before .before .before in
     let fit = called .before .before in
-    let lists = begin fit .args in
-    refusal-placed (settings fit) (lists .flow .now) (lists .occupancy .now) (lists .diagram .now) (lists .row .now)
-    (fit .results-fit .ensures) (called .before .if1 .left) (called .calibrate .ensures) (c .before .found .given .1)
+    let lists = begin fit .args in (
+      omega arith,
+      refusal-placed (settings fit) (lists .flow .now) (lists .occupancy .now) (lists .diagram .now) (lists .row .now)
+          (fit .results-fit .ensures) (called .before .if1 .left) (called .calibrate .ensures) (c .before .found .given .1),
+    )
 
 put-diagram-requires : tie.Need-put-diagram-requires
 put-diagram-requires c κs =

@@ -1,5 +1,6 @@
 -- `figwimple::figwimple_period` meets its contract. Assumes nothing.
 use borrow.Author.Needs.{needs}
+use native.Mathlib.Omega.{arith}
 use Rattle.layout.specs.Corridor.{corridorOf}
 use Rattle.figwimple.proofs.Places.{period-placed}
 use Rattle.figwimple.proofs.Called.{fits-as, period-called}
@@ -9,7 +10,7 @@ use Rattle.figwimple.proofs.figwimple_period.Tie as tie
 word-requires : tie.Need-word-requires
 word-requires c κs =
     let lists = c .before .before .before .before .before .before .before .before .before .before .before .args in
-    fits-as (c .before .before .before .before .period .ensures .answered) (period-placed (corridorOf (lists .table .now) (lists .state .now)) (lists .demand .now) (lists .sheet .now))
+    (omega arith, fits-as (c .before .before .before .before .period .ensures .answered) (period-placed (corridorOf (lists .table .now) (lists .state .now)) (lists .demand .now) (lists .sheet .now)))
 
 returns : tie.Need-returns
 returns c = period-called (c .before .before .before .before .before .period .ensures) (c .word .ensures)

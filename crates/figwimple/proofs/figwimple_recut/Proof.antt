@@ -1,5 +1,6 @@
 -- `figwimple::figwimple_recut` meets its contract. Assumes nothing.
 use borrow.Author.Needs.{needs}
+use native.Mathlib.Omega.{arith}
 use Rattle.layout.specs.Corridor.{corridorOf}
 use Rattle.figwimple.proofs.Places.{recut-placed}
 use Rattle.figwimple.proofs.Called.{fits-as, recut-called}
@@ -9,7 +10,7 @@ use Rattle.figwimple.proofs.figwimple_recut.Tie as tie
 word-requires : tie.Need-word-requires
 word-requires c κs =
     let lists = c .before .before .before .before .before .before .before .before .before .args in
-    fits-as (c .before .before .recut .ensures .answered) (recut-placed (corridorOf (lists .old .now) (lists .state .now)) (lists .pieces .now) (lists .new .now) (lists .list .now))
+    (omega arith, fits-as (c .before .before .recut .ensures .answered) (recut-placed (corridorOf (lists .old .now) (lists .state .now)) (lists .pieces .now) (lists .new .now) (lists .list .now)))
 
 returns : tie.Need-returns
 returns c = recut-called (c .before .before .before .recut .ensures) (c .word .ensures)
