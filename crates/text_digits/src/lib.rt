@@ -9,8 +9,8 @@ mod decimal;
 
 use decimal::fits;
 use decimal::line_fits;
+use decimal::put_digits;
 use decimal::put_line;
-use decimal::put_number;
 use decimal::put_rest;
 
 // Where writing into a buffer ended.
@@ -27,7 +27,7 @@ pub fn write_decimal(number: u64, buffer: &mut [u8], at: usize) -> Written
     ensures stores { λ _. ⌜ now (buffer .exit) ≡ afterWriting (now (buffer .entry)) at (digitsOf number) ⌝ }
 {
     if fits(number, buffer.len(), at) {
-        Written::To(put_number(number, buffer, at))
+        Written::To(put_digits(number, buffer, at))
     } else {
         Written::NoRoom
     }
