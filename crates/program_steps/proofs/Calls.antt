@@ -17,7 +17,8 @@ use Rattle.refusals.proofs.Answers.{length-fits-too, length-fails, accepted-pas
 use Rattle.layout.specs.Layout.{demandLength}
 use Rattle.layout.specs.Sheet.{sheetLength}
 use Rattle.layout.specs.Corridor.{Corridor, cellsOf}
-use Rattle.text_digits.specs.declared.Written.the-variants.{To, NoRoom}
+use Rattle.text_digits.specs.declared.Written.the-variants.{To}
+use Rattle.text_digits.specs.Writes.{noRoom}
 use Rattle.text_scans.specs.Scans.{ended}
 use Rattle.text_scans.specs.declared.Scan.{Scan}
 use Rattle.text_records.specs.Reads.{rowAtEnd}
@@ -34,7 +35,7 @@ use Rattle.program_steps.specs.Private.{ReadyAt, Put, turnOf, Turned, wr
 
 -- a line at the start of an output
 
-pub no-line : (out text : List ℕ) → length out < lineRoom → (NoRoom ≡ lineWritten out text) × (out ≡ afterLine out text)
+pub no-line : (out text : List ℕ) → length out < lineRoom → (noRoom ≡ lineWritten out text) × (out ≡ afterLine out text)
 unfolding lineWritten afterLine
 no-line out text short = (rw (lt-leb lineRoom (length out) short), rw (lt-leb lineRoom (length out) short))
 

@@ -10,13 +10,14 @@ use lib.Seq.{length-take-le}
 use lib.Seq.{sets, sets-eq, take-at, drop-cons}
 use Rattle.whole.specs.Lists.{build}
 use Rattle.whole.proofs.Lists.{build-length, build-at}
+use Rattle.refusals.specs.declared.Refusal.{Refusal}
 use Rattle.layout.specs.Layout.{countAt, cells}
 use Rattle.layout.specs.Sheet.{flowIn, offFlowIn, onFlowIn, modeIn}
 use Rattle.layout.specs.Laid.{stored}
 use Rattle.text_digits.specs.Lines.{digitsOf, restText, lineText}
 use Rattle.text_digits.specs.Writes.{written, afterWriting, restWritten, afterRest}
 use Rattle.text_digits.specs.declared.Written.{Written}
-use Rattle.text_digits.specs.declared.Written.the-variants.{To, NoRoom}
+use Rattle.text_digits.specs.declared.Written.the-variants.{To, Refused}
 use Rattle.text_digits.proofs.Lines.{line-at-most, line-starts, rest-fits}
 use Rattle.text_digits.proofs.Digits.{at-most-20}
 use Rattle.text_digits.proofs.Stores.{rest-of, stores-after}
@@ -33,7 +34,7 @@ written-to out bytes at fits = (rw (le-leb (at + length bytes) (length out) fits
 same-end : {w : Written} {end place : ℕ} → w ≡ To end → w ≡ To place → end ≡ place
 same-end p q = cc
 
-had-room : {w : Written} {place : ℕ} → w ≡ NoRoom → w ≡ To place → ⊥
+had-room : {w : Written} {refusal : Refusal} {place : ℕ} → w ≡ Refused refusal → w ≡ To place → ⊥
 had-room p q = let z : _≡_ {A = ℕ} 0 1 = cc in omega arith
 
 -- a line of seven numbers is written, since it has room
@@ -49,7 +50,7 @@ module _ (numbers out : List ℕ) (at : ℕ) (fits : LineFits numbers out at) (s
       let ends = same-end is (told ∙ to .0) in
       record { put = record { ends = ends; stores = stored ∙ to .1 }; within = omega (arith, within-room, ends) }
 
-  pub line-has-room : w ≡ NoRoom → ⊥
+  pub line-has-room : {refusal : Refusal} → w ≡ Refused refusal → ⊥
   line-has-room none = had-room none (told ∙ to .0)
 
 -- the digits of a period's number are written, since a space of 20 bytes has room for them
@@ -65,7 +66,7 @@ module _ (k : ℕ) (space : List ℕ) (small : k < 2 ^ 64) (room : 20 ≤ length
       let ends = same-end is (digits-to .0) in
       record { ends = omega (arith, ends); within = omega (arith, ends, at-most-20 k small); stores = rw same at stored ∙ digits-to .1 }
 
-  pub digits-have-room : w ≡ NoRoom → ⊥
+  pub digits-have-room : {refusal : Refusal} → w ≡ Refused refusal → ⊥
   digits-have-room none = had-room none (digits-to .0)
 
 -- the cells' lines from the one of index i on
@@ -162,7 +163,7 @@ module _ {period : List ℕ} {n i : ℕ} {state sheet out₀ : List ℕ} {at : �
         within = omega (arith, most _ is, copied .ends, fits .short);
       }
 
-  pub cell-has-room : w ≡ NoRoom → ⊥
+  pub cell-has-room : {refusal : Refusal} → w ≡ Refused refusal → ⊥
   cell-has-room none = had-room none (rest-to .0)
 
 -- the digits stand at the start of the space that they are written to

@@ -10,7 +10,8 @@ use Rattle.layout.specs.Layout.{entryQueue, countAt}
 use Rattle.layout.specs.Sheet.{flowIn, offFlowIn, onFlowIn, modeIn}
 use Rattle.text_digits.specs.Lines.{LF, CR, lineText}
 use Rattle.text_digits.specs.declared.Written.{Written}
-use Rattle.text_digits.specs.declared.Written.the-variants.{To, NoRoom}
+use Rattle.text_digits.specs.declared.Written.the-variants.{To}
+use Rattle.text_digits.specs.Writes.{noRoom}
 use Rattle.text_records.specs.Texts.{textOf}
 use Rattle.program_files.specs.declared.Stop.{Stop}
 
@@ -45,7 +46,7 @@ lineRoom = 149
 
 -- a line at the start of an output, where that has room for the longest
 unfoldable pub lineWritten : List ℕ → List ℕ → Written
-lineWritten out text = pick (leb lineRoom (length out)) (To (length text)) NoRoom
+lineWritten out text = pick (leb lineRoom (length out)) (To (length text)) noRoom
 
 unfoldable pub afterLine : List ℕ → List ℕ → List ℕ
 afterLine out text = pick (leb lineRoom (length out)) (sets out 0 text) out

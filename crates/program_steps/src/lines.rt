@@ -8,6 +8,7 @@ ghost use Rattle.program_steps.specs.Private.{Put, PutLine, PutDigits, P
 use layout::sheet::*;
 use layout::*;
 use program_files::Stop;
+use refusals::Refusal;
 use text_digits::Written;
 
 // The most bytes of a line: seven numbers of at most 20 digits, each with a comma, and its end.
@@ -44,7 +45,7 @@ pub fn header(out: &mut [u8]) -> Written
     ensures stores { λ _. ⌜ now (out .exit) ≡ afterLine (now (out .entry)) HEADER ⌝ }
 {
     if out.len() < LINE_ROOM {
-        return Written::NoRoom;
+        return Written::Refused(Refusal::Length);
     }
     Written::To(put_bytes(b"k,i,n,f,s,r,mode\r\n", out, 0))
 }
@@ -57,7 +58,7 @@ fn put_line(numbers: &[u64], out: &mut [u8], at: usize) -> usize
     let written = text_digits::write_record(numbers, out, at);
     match written {
         Written::To(end) => end,
-        Written::NoRoom => at,
+        Written::Refused(_) => at,
     }
 }
 
@@ -84,7 +85,7 @@ pub fn stop_line(stop: Stop, out: &mut [u8]) -> Written
     ensures stores { λ _. ⌜ now (out .exit) ≡ afterLine (now (out .entry)) (stopText stop) ⌝ }
 {
     if out.len() < LINE_ROOM {
-        return Written::NoRoom;
+        return Written::Refused(Refusal::Length);
     }
     Written::To(put_stop(stop, out, 0))
 }
@@ -114,7 +115,7 @@ fn period_digits(k: usize, space: &mut [u8]) -> usize
     let written = text_digits::write_decimal(large(k), space, 0);
     match written {
         Written::To(end) => end,
-        Written::NoRoom => 0,
+        Written::Refused(_) => 0,
     }
 }
 
@@ -144,7 +145,7 @@ fn put_cell(
     );
     match written {
         Written::To(end) => end,
-        Written::NoRoom => to,
+        Written::Refused(_) => to,
     }
 }
 

@@ -82,7 +82,7 @@ fn pass_last(out: &[u8], at: usize) -> Next
 fn pass_line(line: Written, out: &[u8]) -> bool {
     match line {
         Written::To(end) => pass_on(out, end),
-        Written::NoRoom => false,
+        Written::Refused(_) => false,
     }
 }
 

@@ -1,5 +1,5 @@
 -- The decimal digits of a number: a digit alone, or the digits of its tenth part and the last one. Assumes nothing.
-use Prim.Native.Nat.{ℕ, zero, suc, _+_, _*_, _/_, _%_, _^_, _≤_, _<_, zero-le, suc-le-suc}
+use Prim.Native.Nat.{ℕ, zero, suc, _+_, _/_, _%_, _^_, _≤_, _<_, zero-le, suc-le-suc}
 use mathlib.Core.Path.{_≡_, refl, ap, sym, _∙_}
 use mathlib.Core.Bool.{Bool, true, false}
 use mathlib.Core.List.{List, [], _∷_, _++_}
@@ -7,11 +7,10 @@ use native.Mathlib.Nat.{not-suc-le-zero, pow-suc, div-lt-iff-lt-mul}
 use native.Mathlib.Omega.{arith}
 use borrow.Author.Tests.{lt-ltb, le-ltb, ltb-true, ltb-false}
 use lib.Dec.{ltb}
-use lib.ListN.{length, set, length-append}
+use lib.ListN.{length, set, length-append, length-set}
 use lib.Seq.{sets}
 use Rattle.whole.specs.Search.{pick}
 use Rattle.text_digits.proofs.Stores.{stores-after}
-use Rattle.text_digits.specs.Private.{twoOf}
 use Rattle.text_digits.specs.Lines.{DIGIT, lastDigits, digitsOf}
 
 -- it matters not how many digits are asked for, so long as they are enough
@@ -33,52 +32,6 @@ one-digit n h = rw (lt-ltb n 10 h)
 pub more-digits : (n : ℕ) → 10 ≤ n → digitsOf n ≡ digitsOf (n / 10) ++ (DIGIT + n % 10) ∷ []
 unfolding digitsOf lastDigits
 more-digits n h = rw (le-ltb n 10 h) (ap (λ (l : List ℕ). l ++ (DIGIT + n % 10) ∷ []) (same-digits n (suc (n / 10)) (n / 10) (omega arith) (omega arith)))
-
--- numbers of two to five digits, two or four at a time
-tens : (m : ℕ) → m / 10 % 10 ≡ m % 100 / 10
-tens m = omega arith
-
-units : (m : ℕ) → m % 10 ≡ m % 100 % 10
-units m = omega arith
-
-tenth-of-hundredth : (m : ℕ) → m / 10 / 100 ≡ m / 100 / 10
-tenth-of-hundredth m = omega arith
-
-hundredth : (m : ℕ) → m / 10 / 10 ≡ m / 100
-hundredth m = omega arith
-
-pub two-digits : (n : ℕ) → 10 ≤ n → n < 100 → digitsOf n ≡ twoOf n
-two-digits n h g = more-digits n h ∙ rw (one-digit (n / 10) (omega arith))
-
-pub three-digits : (n : ℕ) → 100 ≤ n → n < 1000 → digitsOf n ≡ (DIGIT + n / 100) ∷ twoOf (n % 100)
-three-digits n h g =
-    more-digits n (omega arith) ∙ rw (two-digits (n / 10) (omega arith) (omega arith)) (rw (hundredth n, tens n, units n))
-
-pub four-digits : (n : ℕ) → 1000 ≤ n → n < 10000 → digitsOf n ≡ twoOf (n / 100) ++ twoOf (n % 100)
-four-digits n h g =
-    more-digits n (omega arith)
-    ∙ rw (three-digits (n / 10) (omega arith) (omega arith)) (rw (tenth-of-hundredth n, ← tens (n / 10), hundredth n, ← units (n / 10), tens n, units n))
-
-five-by-two : (n : ℕ) → 10000 ≤ n → n < 100000 → digitsOf n ≡ (DIGIT + n / 100 / 100) ∷ twoOf (n / 100 % 100) ++ twoOf (n % 100)
-five-by-two n h g =
-    more-digits n (omega arith)
-    ∙ rw (four-digits (n / 10) (omega arith) (omega arith))
-    (rw (tenth-of-hundredth n, hundredth (n / 100), tens (n / 100), ← tens (n / 10), hundredth n, units (n / 100), ← units (n / 10), tens n, units n))
-
-pub five-digits : (n : ℕ) → 10000 ≤ n → n < 100000 → digitsOf n ≡ (DIGIT + n / 10000) ∷ twoOf (n % 10000 / 100) ++ twoOf (n % 10000 % 100)
-five-digits n h g =
-    let first : n / 100 / 100 ≡ n / 10000 = omega arith in
-    let next : n / 100 % 100 ≡ n % 10000 / 100 = omega arith in
-    let last : n % 100 ≡ n % 10000 % 100 = omega arith in
-    five-by-two n h g ∙ rw (first, next, last)
-
--- four bytes taken out of the number that they make
-pub four-bytes : (a b c d : ℕ) → a < 256 → b < 256 → c < 256 → d < 256 → {x : ℕ} → x ≡ a + 256 * b + 65536 * (c + 256 * d)
-    → (x % 256 ≡ a) × (x / 256 % 256 ≡ b) × (x / 65536 % 256 ≡ c) × (x / 16777216 ≡ d)
-four-bytes a b c d ha hb hc hd {x} e =
-    let above : x / 256 ≡ b + 256 * (c + 256 * d) = omega arith in
-    let upper : x / 65536 ≡ c + 256 * d = omega arith in
-    (omega arith, omega (arith, above), omega (arith, upper), omega arith)
 
 pub one-longer : (n : ℕ) → 10 ≤ n → length (digitsOf n) ≡ length (digitsOf (n / 10)) + 1
 one-longer n h = ap length (more-digits n h) ∙ length-append (digitsOf (n / 10)) ((DIGIT + n % 10) ∷ [])
@@ -114,3 +67,59 @@ some-digit n = by (ltb n 10) refl
 pub last-digit-stored : (l : List ℕ) (at n : ℕ) → 10 ≤ n
     → set (sets l at (digitsOf (n / 10))) (at + length (digitsOf (n / 10))) (DIGIT + n % 10) ≡ sets l at (digitsOf n)
 last-digit-stored l at n h = rw (more-digits n h) (sym (stores-after l at (digitsOf (n / 10)) ((DIGIT + n % 10) ∷ [])))
+
+-- Digits stored one by one from the position `at` on, the most significant first: those of m stand in the buffer, at most k of them.
+-- None does while m is 0.
+
+unfoldable pub stored : ℕ → List ℕ
+stored m = pick (ltb m 1) [] (digitsOf m)
+
+all-stored : (m : ℕ) → 1 ≤ m → stored m ≡ digitsOf m
+unfolding stored
+all-stored m some = rw (le-ltb m 1 some)
+
+none-stored : (m : ℕ) → m ≡ 0 → stored m ≡ []
+unfolding stored
+none-stored m none = rw none
+
+next-stored : (m : ℕ) → 1 ≤ m → stored m ≡ stored (m / 10) ++ (DIGIT + m % 10) ∷ []
+next-stored m some = all-stored m some ∙ by (ltb m 10) refl
+  where
+    by : (b : Bool) → ltb m 10 ≡ b → digitsOf m ≡ stored (m / 10) ++ (DIGIT + m % 10) ∷ []
+    by true e =
+        let small = ltb-true m 10 e in
+        let last : m % 10 ≡ m = omega arith in
+        one-digit m small ∙ rw (none-stored (m / 10) (omega arith), last)
+    by false e =
+        let big = ltb-false m 10 e in
+        more-digits m big ∙ rw (all-stored (m / 10) (omega arith))
+
+pub record Storing (buffer₀ : List ℕ) (at k m : ℕ) (buffer : List ℕ) (next : ℕ) : Type 0 where
+  pub stores : buffer ≡ sets buffer₀ at (stored m)
+  pub ends : next ≡ at + length (stored m)
+  pub same : length buffer ≡ length buffer₀
+  pub most : next ≤ at + k
+
+pub storing-begins : (buffer : List ℕ) (at m : ℕ) → m ≡ 0 → Storing buffer at 0 m buffer at
+storing-begins buffer at m none =
+    record { stores = rw (none-stored m none); ends = rw (none-stored m none) (omega arith); same = refl; most = omega arith }
+
+module _ {buffer₀ : List ℕ} {at k m : ℕ} {buffer : List ℕ} {next : ℕ} where
+  pub digit-stored : Storing buffer₀ at k m buffer next → (n : ℕ) → m ≡ n / 10 → 1 ≤ n → {later : List ℕ} {after byte : ℕ} → byte ≡ DIGIT + n % 10
+      → later ≡ set buffer next byte → after ≡ next + 1 → Storing buffer₀ at (k + 1) n later after
+  digit-stored here n tenth some {byte = byte} b s e =
+      let parts : stored n ≡ stored m ++ (DIGIT + n % 10) ∷ [] = rw tenth (next-stored n some) in
+      record {
+        stores = s ∙ rw (b, parts, here .stores, here .ends) (sym (stores-after buffer₀ at (stored m) ((DIGIT + n % 10) ∷ [])));
+        ends = omega (arith, e, here .ends, ap length parts, length-append (stored m) ((DIGIT + n % 10) ∷ []));
+        same = ap length s ∙ length-set buffer next byte ∙ here .same;
+        most = omega (arith, e, here .most);
+      }
+
+  pub digit-lacks : Storing buffer₀ at k m buffer next → (n : ℕ) → m ≡ n → {later : List ℕ} {after : ℕ} → later ≡ buffer → after ≡ next
+      → Storing buffer₀ at (k + 1) n later after
+  digit-lacks here n none s e =
+      record { stores = s ∙ rw (← none) (here .stores); ends = e ∙ rw (← none) (here .ends); same = ap length s ∙ here .same; most = omega (arith, e, here .most) }
+
+  pub storing-ends : Storing buffer₀ at k m buffer next → 1 ≤ m → (next ≡ at + length (digitsOf m)) × (buffer ≡ sets buffer₀ at (digitsOf m))
+  storing-ends here some = rw (← all-stored m some) (here .ends, here .stores)

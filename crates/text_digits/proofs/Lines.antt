@@ -2,18 +2,18 @@
 use Prim.Native.Nat.{ℕ, zero, suc, _+_, _-_, _*_, _^_, _≤_, _<_, zero-le}
 use mathlib.Core.Path.{_≡_, refl, ap, sym, _∙_}
 use mathlib.Core.List.{List, [], _∷_, _++_, append-assoc}
-use mathlib.Core.Bool.{true, false}
+use mathlib.Core.Bool.{Bool, true, false}
 use native.Mathlib.Numerals.{add-one}
 use native.Mathlib.Omega.{arith}
-use borrow.Author.Tests.{le-leb, lt-leb, ne-eqb}
+use borrow.Author.Tests.{le-leb, lt-leb, leb-true, ne-eqb}
 use lib.Dec.{leb, eqb}
 use lib.ListN.{length, getD, drop, length-append, drop-of-length-le}
 use lib.Seq.{sets, drop-cons}
 use Rattle.whole.specs.Search.{pick}
 use Rattle.text_digits.specs.Lines.{CR, LF, COMMA, digitsOf, furtherText, recordText, restText, lineText}
-use Rattle.text_digits.specs.Writes.{restWritten, afterRest}
+use Rattle.text_digits.specs.Writes.{noRoom, written, afterWriting, restWritten, afterRest}
 use Rattle.text_digits.specs.Private.{separated}
-use Rattle.text_digits.specs.declared.Written.the-variants.{To, NoRoom}
+use Rattle.text_digits.specs.declared.Written.the-variants.{To}
 use Rattle.whole.proofs.Tests.{same-test}
 use Rattle.text_digits.proofs.Stores.{rest-of, stores-after}
 use Rattle.text_digits.proofs.Digits.{at-most-20}
@@ -190,9 +190,23 @@ pub at-least-2 : (numbers : List ℕ) → 2 ≤ length (lineText numbers)
 unfolding lineText
 at-least-2 numbers = omega (arith, length-append (recordText numbers) (CR ∷ LF ∷ []))
 
+-- bytes, by the test of whether they fit a buffer
+module _ (buffer bytes : List ℕ) (at : ℕ) where
+  pub text-fits : {fits : Bool} → fits ≡ leb (at + length bytes) (length buffer) → fits ≡ true → at + length bytes ≤ length buffer
+  text-fits told has = leb-true (at + length bytes) (length buffer) (sym told ∙ has)
+
+  pub text-put : {fits : Bool} → fits ≡ leb (at + length bytes) (length buffer) → fits ≡ true → {to : ℕ} {later : List ℕ} → to ≡ at + length bytes
+      → later ≡ sets buffer at bytes → (To to ≡ written buffer at bytes) × (later ≡ afterWriting buffer at bytes)
+  unfolding written afterWriting
+  text-put told has e s = rw (sym told ∙ has) (ap To e, s)
+
+  pub no-text : {fits : Bool} → fits ≡ leb (at + length bytes) (length buffer) → fits ≡ false → (noRoom ≡ written buffer at bytes) × (buffer ≡ afterWriting buffer at bytes)
+  unfolding written afterWriting
+  no-text told short = rw (sym told ∙ short) (refl, refl)
+
 -- the rest of a line, by the room that a buffer has
 pub no-rest : (buffer bytes : List ℕ) (at : ℕ) → length buffer < at + 128
-    → (NoRoom ≡ restWritten buffer at bytes) × ((buffer ≡ afterRest buffer at bytes) × ((end : ℕ) → NoRoom ≡ To end → end ≤ at + 128))
+    → (noRoom ≡ restWritten buffer at bytes) × ((buffer ≡ afterRest buffer at bytes) × ((end : ℕ) → noRoom ≡ To end → end ≤ at + 128))
 unfolding restWritten afterRest
 no-rest buffer bytes at short =
     (rw (lt-leb (at + 128) (length buffer) short), (rw (lt-leb (at + 128) (length buffer) short), λ end e. absurd (let z : _≡_ {A = ℕ} 0 1 = cc in omega arith)))

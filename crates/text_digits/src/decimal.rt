@@ -1,12 +1,12 @@
 // Decimal digits, most significant first, and the line of a record, into a buffer that has room for them.
 ghost use mathlib.Core.Path.{_≡_};
-ghost use Prim.Native.Nat.{_+_, _/_, _%_, _≤_, _<_};
+ghost use Prim.Native.Nat.{_+_, _≤_, _<_};
 ghost use lib.Dec.{leb};
 ghost use lib.ListN.{length};
 ghost use lib.Seq.{sets};
-ghost use mathlib.Core.List.{_∷_, [], _++_};
+ghost use mathlib.Core.List.{_∷_, []};
 ghost use Rattle.text_digits.specs.Lines.{COMMA, CR, LF, DIGIT, digitsOf, furtherText, restText, lineText};
-ghost use Rattle.text_digits.specs.Private.{twoOf, twoPacked, fourPacked, comma, separated};
+ghost use Rattle.text_digits.specs.Private.{comma, separated};
 
 // How many decimal digits a number has.
 fn digit_count(number: u64) -> usize
@@ -29,100 +29,19 @@ fn digit(number: u64) -> u8
     b'0' + (number as u8)
 }
 
-// The bytes of the two digits of a number below 100 as one number, so that they are stored at once.
-fn pair(number: u64) -> u64
-    requires { ⌜ number < 100 ⌝ }
-    ensures { λ r. ⌜ r ≡ twoPacked number ⌝ }
-{
-    12_336 + 256 * number - 2_559 * (number / 10)
-}
-
-// The bytes of the four digits of a number below 10,000 as one number.
-fn four(number: u64) -> u64
-    requires { ⌜ number < 10_000 ⌝ }
-    ensures { λ r. ⌜ r ≡ fourPacked number ⌝ }
-{
-    let high = number / 100;
-    let low = number % 100;
-    808_464_432 + 256 * (high + 65_536 * low) - 2_559 * (high / 10 + 65_536 * (low / 10))
-}
-
-// Writes the two digits of a number below 100.
-fn put_two(number: u64, buffer: &mut [u8], at: usize)
-    requires { ⌜ (number < 100) × (at + 2 ≤ length (now buffer)) ⌝ }
-    ensures { λ _. ⌜ now (buffer .exit) ≡ sets (now (buffer .entry)) at (twoOf number) ⌝ }
-{
-    let bytes = pair(number);
-    buffer[at] = (bytes % 256) as u8;
-    buffer[at + 1] = (bytes / 256) as u8;
-}
-
-// Writes the four digits of a number below 10,000.
-fn put_four(number: u64, buffer: &mut [u8], at: usize)
-    requires { ⌜ (number < 10_000) × (at + 4 ≤ length (now buffer)) ⌝ }
-    ensures { λ _. ⌜ now (buffer .exit) ≡ sets (now (buffer .entry)) at (twoOf (number / 100) ++ twoOf (number % 100)) ⌝ }
-{
-    let bytes = four(number);
-    buffer[at] = (bytes % 256) as u8;
-    buffer[at + 1] = (bytes / 256 % 256) as u8;
-    buffer[at + 2] = (bytes / 65_536 % 256) as u8;
-    buffer[at + 3] = (bytes / 16_777_216) as u8;
-}
-
-// Writes the digits of a number below 100,000, as most numbers of a flow sheet are, with no call of itself. Five digits are
-// the most frequent, after one.
-fn put_few(number: u64, buffer: &mut [u8], at: usize) -> usize
-    requires { ⌜ (number < 100_000) × (at + length (digitsOf number) ≤ length (now buffer)) ⌝ }
-    ensures answer { λ r. ⌜ r ≡ at + length (digitsOf number) ⌝ }
-    ensures stores { λ _. ⌜ now (buffer .exit) ≡ sets (now (buffer .entry)) at (digitsOf number) ⌝ }
-{
-    if 10_000 <= number {
-        buffer[at] = digit(number / 10_000);
-        put_four(number % 10_000, buffer, at + 1);
-        return at + 5;
-    }
-    if number < 10 {
-        buffer[at] = digit(number);
-        return at + 1;
-    }
-    if number < 100 {
-        put_two(number, buffer, at);
-        return at + 2;
-    }
-    if number < 1_000 {
-        buffer[at] = digit(number / 100);
-        put_two(number % 100, buffer, at + 1);
-        return at + 3;
-    }
-    put_four(number, buffer, at);
-    at + 4
-}
-
-// Writes the digits of a number: those before the last, by a call with a smaller number, and then the last.
-fn put_digits(number: u64, buffer: &mut [u8], at: usize) -> usize
+// Writes the digits of a number: those before the last, by a call with a tenth of the number, and then the last.
+pub(crate) fn put_digits(number: u64, buffer: &mut [u8], at: usize) -> usize
     requires { ⌜ at + length (digitsOf number) ≤ length (now buffer) ⌝ }
     ensures answer { λ r. ⌜ r ≡ at + length (digitsOf number) ⌝ }
     ensures stores { λ _. ⌜ now (buffer .exit) ≡ sets (now (buffer .entry)) at (digitsOf number) ⌝ }
 {
-    if number < 100_000 {
-        put_few(number, buffer, at)
+    if number < 10 {
+        buffer[at] = digit(number);
+        at + 1
     } else {
         let next = put_digits(number / 10, buffer, at);
         buffer[next] = digit(number % 10);
         next + 1
-    }
-}
-
-// Writes the digits of a number; a small one needs no call.
-pub(crate) fn put_number(number: u64, buffer: &mut [u8], at: usize) -> usize
-    requires { ⌜ at + length (digitsOf number) ≤ length (now buffer) ⌝ }
-    ensures answer { λ r. ⌜ r ≡ at + length (digitsOf number) ⌝ }
-    ensures stores { λ _. ⌜ now (buffer .exit) ≡ sets (now (buffer .entry)) at (digitsOf number) ⌝ }
-{
-    if number < 100_000 {
-        put_few(number, buffer, at)
-    } else {
-        put_digits(number, buffer, at)
     }
 }
 
@@ -199,7 +118,7 @@ fn put_separated(i: usize, number: u64, buffer: &mut [u8], at: usize) -> usize
     ensures stores { λ _. ⌜ now (buffer .exit) ≡ sets (now (buffer .entry)) at (separated i number) ⌝ }
 {
     let next = put_comma(i, buffer, at);
-    put_number(number, buffer, next)
+    put_digits(number, buffer, next)
 }
 
 // Writes a record's end.
@@ -228,7 +147,36 @@ pub(crate) fn put_line(numbers: &[u64], buffer: &mut [u8], at: usize) -> usize
     put_end(buffer, next)
 }
 
-// Writes a number after a comma; one digit needs no call.
+// Writes what the recursion writes for a number below 100,000, as most numbers of a flow sheet are, with no call of itself: each
+// digit is stored where the number has it.
+fn put_few(number: u64, buffer: &mut [u8], at: usize) -> usize
+    requires { ⌜ (number < 100_000) × (at + 5 ≤ length (now buffer)) ⌝ }
+    ensures answer { λ r. ⌜ r ≡ at + length (digitsOf number) ⌝ }
+    ensures stores { λ _. ⌜ now (buffer .exit) ≡ sets (now (buffer .entry)) at (digitsOf number) ⌝ }
+{
+    if number < 10 {
+        buffer[at] = digit(number);
+        return at + 1;
+    }
+    let mut next = at;
+    if 10_000 <= number {
+        buffer[next] = digit(number / 10_000);
+        next += 1;
+    }
+    if 1_000 <= number {
+        buffer[next] = digit(number / 1_000 % 10);
+        next += 1;
+    }
+    if 100 <= number {
+        buffer[next] = digit(number / 100 % 10);
+        next += 1;
+    }
+    buffer[next] = digit(number / 10 % 10);
+    buffer[next + 1] = digit(number % 10);
+    next + 2
+}
+
+// Writes a number after a comma.
 fn put_further(number: u64, buffer: &mut [u8], at: usize) -> usize
     requires { ⌜ at + 21 ≤ length (now buffer) ⌝ }
     ensures answer { λ r. ⌜ r ≡ at + length (COMMA ∷ digitsOf number) ⌝ }
@@ -236,11 +184,10 @@ fn put_further(number: u64, buffer: &mut [u8], at: usize) -> usize
     ensures stores { λ _. ⌜ now (buffer .exit) ≡ sets (now (buffer .entry)) at (COMMA ∷ digitsOf number) ⌝ }
 {
     buffer[at] = b',';
-    if number < 10 {
-        buffer[at + 1] = digit(number);
-        return at + 2;
+    if number < 100_000 {
+        return put_few(number, buffer, at + 1);
     }
-    put_number(number, buffer, at + 1)
+    put_digits(number, buffer, at + 1)
 }
 
 // Writes the rest of a record of seven numbers after its first: six numbers, each after a comma, and the end. They take at

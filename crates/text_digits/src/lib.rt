@@ -9,16 +9,17 @@ mod decimal;
 
 use decimal::fits;
 use decimal::line_fits;
+use decimal::put_digits;
 use decimal::put_line;
-use decimal::put_number;
 use decimal::put_rest;
+use refusals::Refusal;
 
 // Where writing into a buffer ended.
 pub enum Written {
     // The position after the last byte written.
     To(usize),
-    // The bytes do not fit, and none is written.
-    NoRoom,
+    // The bytes do not fit, a wrong length, and none is written.
+    Refused(Refusal),
 }
 
 // Writes the decimal digits of a number into a buffer from a position on, most significant first.
@@ -27,9 +28,9 @@ pub fn write_decimal(number: u64, buffer: &mut [u8], at: usize) -> Written
     ensures stores { λ _. ⌜ now (buffer .exit) ≡ afterWriting (now (buffer .entry)) at (digitsOf number) ⌝ }
 {
     if fits(number, buffer.len(), at) {
-        Written::To(put_number(number, buffer, at))
+        Written::To(put_digits(number, buffer, at))
     } else {
-        Written::NoRoom
+        Written::Refused(Refusal::Length)
     }
 }
 
@@ -41,7 +42,7 @@ pub fn write_record(numbers: &[u64], buffer: &mut [u8], at: usize) -> Written
     if line_fits(numbers, buffer.len(), at) {
         Written::To(put_line(numbers, buffer, at))
     } else {
-        Written::NoRoom
+        Written::Refused(Refusal::Length)
     }
 }
 
@@ -62,10 +63,10 @@ pub fn write_rest(
     ensures within { λ r. ⌜ ((end : ℕ) → r ≡ Written.To end → end ≤ at + 128) ⌝ }
 {
     if buffer.len() < 128 {
-        return Written::NoRoom;
+        return Written::Refused(Refusal::Length);
     }
     if buffer.len() - 128 < at {
-        return Written::NoRoom;
+        return Written::Refused(Refusal::Length);
     }
     Written::To(put_rest(a, b, c, d, e, f, buffer, at))
 }

@@ -1,5 +1,6 @@
 // Reads good and damaged texts through the public functions and writes what was found, which is held to the stored
-// output. Each list holds 7s before.
+// output. Each list holds 7s before. Then a record is written into a buffer that it just fits, and into one that it does not.
+use refusals::Refusal;
 use text_digits::Written;
 use text_records::Read;
 use text_records::Text;
@@ -17,17 +18,29 @@ fn print_start(buffer: &[u8], end: usize) {
     }
 }
 
+// Prints the number and the place of a writer's refusal.
+fn print_refusal(refusal: Refusal) {
+    io::write_all(1, b"refused with ");
+    io::print_decimal(1, wide(refusals::number(refusal)));
+    io::write_all(1, b" at place ");
+    io::print_decimal(1, refusals::place(refusal) as u64);
+    io::write_all(1, b"\n");
+}
+
+// Prints what was written at the start of a buffer.
+fn print_written(written: Written, buffer: &[u8]) {
+    match written {
+        Written::To(end) => print_start(buffer, end),
+        Written::Refused(refusal) => print_refusal(refusal),
+    }
+}
+
 // Prints the four numbers of a list as a record.
 fn print_list(list: &[u32; 4]) {
     let record = [wide(list[0]), wide(list[1]), wide(list[2]), wide(list[3])];
     let mut line = [0u8; 64];
     let written = text_digits::write_record(&record, &mut line, 0);
-    match written {
-        Written::To(end) => print_start(&line, end),
-        Written::NoRoom => {
-            io::write_all(1, b"no room\n");
-        }
-    }
+    print_written(written, &line);
 }
 
 // Prints what a text was found to be.
@@ -146,7 +159,18 @@ fn damaged() {
     pieces(b"1,2,3,4\n", b"");
 }
 
+// A record of nine bytes, written into a buffer of nine, and from its second byte on.
+fn full() {
+    let record = [10, 20, 4];
+    let mut line = [0u8; 9];
+    let written = text_digits::write_record(&record, &mut line, 0);
+    print_written(written, &line);
+    let late = text_digits::write_record(&record, &mut line, 1);
+    print_written(late, &line);
+}
+
 fn main() {
     good();
     damaged();
+    full();
 }

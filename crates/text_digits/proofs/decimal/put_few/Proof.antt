@@ -1,125 +1,108 @@
 -- `text_digits::decimal::put_few` meets its contract. Assumes nothing.
-use mathlib.Core.Path.{refl, ap, _∙_}
+use Prim.Native.Nat.{_+_, _/_}
+use mathlib.Core.Path.{refl, ap}
+use mathlib.Core.Logic.{⊎-elim}
 use native.Mathlib.Omega.{arith}
-use native.Mathlib.Numerals.{add-one}
-use lib.ListN.{length, set, length-set}
 use borrow.Author.Needs.{needs}
-use Rattle.text_digits.proofs.Digits.{one-digit, two-digits, three-digits, four-digits, five-digits, some-digit}
+use lib.ListN.{set}
+use Rattle.text_digits.proofs.Digits.{one-digit, Storing, storing-begins, digit-stored, digit-lacks, storing-ends}
 use Rattle.text_digits.proofs.decimal.put_few.Statement.{statement}
 use Rattle.text_digits.proofs.decimal.put_few.Tie as tie
 
-slice-write-buffer : tie.Need-slice-write-buffer
-slice-write-buffer c = let start = c .before .before .before in
-    let is = five-digits (start .args .number) (c .before .if1 .taken) (start .pre .0) in
-    omega (arith, ap length is, start .pre .1)
-
-put-four-requires : tie.Need-put-four-requires
-put-four-requires c κs = let five = c .before .before in
-    let start = five .before .before in
-    let is = five-digits (start .args .number) (five .if1 .taken) (start .pre .0) in
-    (omega arith, omega (arith, ap length is, start .pre .1, length-set (start .args .buffer .now) (start .args .at) (c .before .digit .result)))
-
-same-length : tie.Need-same-length
-same-length c = let put = c .before .before in
-    let first = put .before .before in
-    let start = first .before .before .before in
-    put .put-four .kept .1 .0 ∙ length-set (start .args .buffer .now) (start .args .at) (first .digit .result)
-
 returns : tie.Need-returns
-returns c = let put = c .before .before in
-    let first = put .before .before in
-    let start = first .before .before .before in
-    let is = five-digits (start .args .number) (first .before .if1 .taken) (start .pre .0) in
-    rw is (refl, put .put-four .ensures ∙ rw (add-one, first .digit .ensures))
+returns c = let a = c .before .before .before .args in
+    rw (one-digit (a .number) (c .before .if1 .taken)) (refl, ap (λ v. set (a .buffer .now) (a .at) v) (c .digit .ensures))
 
-slice-write-buffer-2 : tie.Need-slice-write-buffer-2
-slice-write-buffer-2 c = let start = c .before .before .before .before in
-    omega (arith, some-digit (start .args .number), start .pre .1)
+-- what stands in the buffer after each test
+one : (c : tie.Joined2) → let a = c .before .before .before .args in Storing (a .buffer .now) (a .at) 1 (a .number / 10000) (c .if2 .buffer) (c .if2 .next)
+one c = let a = c .before .before .before .args in
+    let begins = storing-begins (a .buffer .now) (a .at) (a .number / 100000) (omega arith) in
+    ⊎-elim
+    (λ w. digit-stored begins (a .number / 10000) (omega arith) (omega arith) (omega (arith, w .1 .ensures)) (w .2) (w .3))
+    (λ w. digit-lacks begins (a .number / 10000) (omega arith) (w .1) (w .2))
+    (c .if2 .came)
 
-returns-2 : tie.Need-returns-2
-returns-2 c = let a = c .before .before .before .before .args in
-    rw (one-digit (a .number) (c .before .if2 .taken)) (refl, ap (λ v. set (a .buffer .now) (a .at) v) (c .digit2 .ensures))
+two : (c : tie.Joined3) → let a = c .before .before .before .before .args in Storing (a .buffer .now) (a .at) 2 (a .number / 1000) (c .if3 .buffer) (c .if3 .next)
+two c = let n = c .before .before .before .before .args .number in
+    ⊎-elim
+    (λ w. digit-stored (one (c .before)) (n / 1000) (omega arith) (omega arith) (w .1 .ensures) (w .3) (w .4))
+    (λ w. digit-lacks (one (c .before)) (n / 1000) (omega arith) (w .1) (w .2))
+    (c .if3 .came)
 
-put-two-requires : tie.Need-put-two-requires
-put-two-requires c κs = let start = c .before .before .before .before .before in
-    let is = two-digits (start .args .number) (c .before .before .if2 .left) (c .before .if3 .taken) in
-    (c .before .if3 .taken, omega (arith, ap length is, start .pre .1))
-
-returns-3 : tie.Need-returns-3
-returns-3 c = let put = c .before .before in
-    let two = put .before .before in
-    let start = two .before .before .before .before in
-    let is = two-digits (start .args .number) (two .before .if2 .left) (two .if3 .taken) in
-    rw is (refl, put .put-two .ensures)
+three : (c : tie.Joined4) → let a = c .before .before .before .before .before .args in Storing (a .buffer .now) (a .at) 3 (a .number / 100) (c .if4 .buffer) (c .if4 .next)
+three c = let n = c .before .before .before .before .before .args .number in
+    ⊎-elim
+    (λ w. digit-stored (two (c .before)) (n / 100) (omega arith) (omega arith) (w .1 .ensures) (w .3) (w .4))
+    (λ w. digit-lacks (two (c .before)) (n / 100) (omega arith) (w .1) (w .2))
+    (c .if4 .came)
 
 slice-write-buffer-3 : tie.Need-slice-write-buffer-3
-slice-write-buffer-3 c = let start = c .before .before .before .before .before .before in
-    let is = three-digits (start .args .number) (c .before .before .if3 .left) (c .before .if4 .taken) in
-    omega (arith, ap length is, start .pre .1)
+slice-write-buffer-3 c = let here = one (c .before .before) in omega (arith, here .same, here .most)
 
-put-two-requires-2 : tie.Need-put-two-requires-2
-put-two-requires-2 c κs = let three = c .before .before in
-    let start = three .before .before .before .before .before in
-    let is = three-digits (start .args .number) (three .before .if3 .left) (three .if4 .taken) in
-    (omega arith, omega (arith, ap length is, start .pre .1, length-set (start .args .buffer .now) (start .args .at) (c .before .digit3 .result)))
+add-next-2 : tie.Need-add-next-2
+add-next-2 c = let here = one (c .before .before .before) in omega (arith, here .same, here .most)
 
-same-length-4 : tie.Need-same-length-4
-same-length-4 c = let put = c .before .before in
-    let first = put .before .before in
-    let start = first .before .before .before .before .before .before in
-    put .put-two2 .kept .1 .0 ∙ length-set (start .args .buffer .now) (start .args .at) (first .digit3 .result)
+slice-write-buffer-4 : tie.Need-slice-write-buffer-4
+slice-write-buffer-4 c = let here = two (c .before .before) in omega (arith, here .same, here .most)
 
-returns-4 : tie.Need-returns-4
-returns-4 c = let put = c .before .before in
-    let first = put .before .before in
-    let three = first .before in
-    let start = three .before .before .before .before .before in
-    let is = three-digits (start .args .number) (three .before .if3 .left) (three .if4 .taken) in
-    rw is (refl, put .put-two2 .ensures ∙ rw (add-one, first .digit3 .ensures))
+add-next-3 : tie.Need-add-next-3
+add-next-3 c = let here = two (c .before .before .before) in omega (arith, here .same, here .most)
 
-put-four-requires-2 : tie.Need-put-four-requires-2
-put-four-requires-2 c κs = let four = c .before in
-    let short = four .before .before .before in
-    let start = short .before .before in
-    let is = four-digits (start .args .number) (four .if4 .left) (short .if1 .left) in
-    (short .if1 .left, omega (arith, ap length is, start .pre .1))
+slice-write-buffer-5 : tie.Need-slice-write-buffer-5
+slice-write-buffer-5 c = let here = three (c .before) in omega (arith, here .same, here .most)
 
-returns-5 : tie.Need-returns-5
-returns-5 c = let put = c .before .before in
-    let four = put .before .before in
-    let short = four .before .before .before in
-    let start = short .before .before in
-    let is = four-digits (start .args .number) (four .if4 .left) (short .if1 .left) in
-    rw is (refl, put .put-four2 .ensures)
+add-buffer : tie.Need-add-buffer
+add-buffer c = let here = three (c .before .before .before) in omega (arith, here .same, here .most)
+
+four : (c : tie.After-row-known3) → let joined = c .before .before .before in
+    let a = joined .before .before .before .before .before .args in
+    Storing (a .buffer .now) (a .at) 4 (a .number / 10) (set (joined .if4 .buffer) (joined .if4 .next) (c .before .before .digit5 .result)) (joined .if4 .next + 1)
+four c = let joined = c .before .before .before in
+    let n = joined .before .before .before .before .before .args .number in
+    digit-stored (three joined) (n / 10) (omega arith) (omega arith) (c .before .before .digit5 .ensures) refl refl
+
+slice-write-buffer-6 : tie.Need-slice-write-buffer-6
+slice-write-buffer-6 c = let here = four c in omega (arith, here .same, here .most)
+
+add-result-2 : tie.Need-add-result-2
+add-result-2 c = let here = three (c .before .before .before) in omega (arith, here .same, here .most)
+
+five : (c : tie.After-row-known3) → let joined = c .before .before .before in
+    let a = joined .before .before .before .before .before .args in
+    let first = set (joined .if4 .buffer) (joined .if4 .next) (c .before .before .digit5 .result) in
+    Storing (a .buffer .now) (a .at) 5 (a .number) (set first (joined .if4 .next + 1) (c .before .digit6 .result)) (joined .if4 .next + 2)
+five c = let n = c .before .before .before .before .before .before .before .before .args .number in
+    digit-stored (four c) n refl (omega arith) (c .before .digit6 .ensures) refl (omega arith)
+
+same-length-2 : tie.Need-same-length-2
+same-length-2 c = five c .same
+
+returns-2 : tie.Need-returns-2
+returns-2 c = storing-ends (five c) (omega arith)
 
 pub put-few-spec : {M : Type 1} → statement M
 put-few-spec =
     tie.close
     (tie.spec
     (λ c κs. search needs)
-    slice-write-buffer
     (λ c. search needs)
-    put-four-requires
     (λ c. search needs)
-    same-length
+    (λ c. search needs)
     returns
     (λ c κs. search needs)
-    slice-write-buffer-2
     (λ c. search needs)
     (λ c. search needs)
-    returns-2
-    put-two-requires
-    (λ c. search needs)
-    (λ c. search needs)
-    returns-3
     (λ c κs. search needs)
     slice-write-buffer-3
-    (λ c. search needs)
-    put-two-requires-2
-    (λ c. search needs)
-    same-length-4
-    returns-4
-    put-four-requires-2
-    (λ c. search needs)
-    (λ c. search needs)
-    returns-5)
+    add-next-2
+    (λ c κs. search needs)
+    slice-write-buffer-4
+    add-next-3
+    (λ c κs. search needs)
+    slice-write-buffer-5
+    (λ c κs. search needs)
+    add-buffer
+    slice-write-buffer-6
+    add-result-2
+    same-length-2
+    returns-2)
