@@ -18,20 +18,22 @@ fn print_start(buffer: &[u8], end: usize) {
     }
 }
 
-// Prints the number and the place of a writer's refusal.
+// Prints the number and the place of a refusal.
 fn print_refusal(refusal: Refusal) {
-    io::write_all(1, b"refused with ");
+    io::write_all(1, b"refused ");
     io::print_decimal(1, wide(refusals::number(refusal)));
-    io::write_all(1, b" at place ");
+    io::write_all(1, b" at ");
     io::print_decimal(1, refusals::place(refusal) as u64);
-    io::write_all(1, b"\n");
 }
 
 // Prints what was written at the start of a buffer.
 fn print_written(written: Written, buffer: &[u8]) {
     match written {
         Written::To(end) => print_start(buffer, end),
-        Written::Refused(refusal) => print_refusal(refusal),
+        Written::Refused(refusal) => {
+            print_refusal(refusal);
+            io::write_all(1, b"\n");
+        }
     }
 }
 
@@ -50,12 +52,7 @@ fn print_text(found: Text) {
             io::write_all(1, b"holds ");
             io::print_decimal(1, records as u64);
         }
-        Text::Refused(refusal) => {
-            io::write_all(1, b"refused ");
-            io::print_decimal(1, refusals::number(refusal) as u64);
-            io::write_all(1, b" at ");
-            io::print_decimal(1, refusals::place(refusal) as u64);
-        }
+        Text::Refused(refusal) => print_refusal(refusal),
     }
     io::write_all(1, b": ");
 }
