@@ -62,8 +62,7 @@ static uint64_t refusal(const columns *t, const uint32_t *state, const uint32_t 
 }
 
 /* One period. f·b is under 2^36 and ONE − b at most 2^16, so the quotient of doubles, cut to a whole number, is the quotient
- * rounded down: where it is not whole it is at least 2^-16 under the next whole number, and is off by at most 2^-17. As f is
- * at most D·(ONE − b) / ONE, f·b / (ONE − b) is at most D − f: f + s never passes n, and nothing is clipped. */
+ * rounded down: where it is not whole it is at least 2^-16 under the next whole number, and is off by at most 2^-17. */
 static void step(columns *restrict t, uint32_t *restrict state, const uint32_t *restrict demand,
                  uint32_t *restrict sheet, size_t cells) {
     uint32_t *restrict count = state + 1, *restrict queue = state + 1 + cells;

@@ -5,7 +5,7 @@ use Rattle.refusals.specs.Checks.{orLater}
 use Rattle.layout.specs.Layout.{stateOf}
 use Rattle.layout.specs.Sheet.{sheetFrom}
 use Rattle.accept_ranges.specs.Ranges.{rowInRange}
-use Rattle.period.specs.Cell.{M, leaving, offFlow}
+use Rattle.period.specs.Cell.{M, offFlow}
 use Rattle.period.specs.Sharing.{asymmetric}
 use Rattle.period.specs.Updated.{updated}
 use Rattle.period.specs.Period.{nodeAt, flowAt, offFlowAt, modeAt, sheetOf, stateAfter}
@@ -14,5 +14,5 @@ use Rattle.recut.specs.Recut.{pieceCell}
 use Rattle.figures.specs.Figures.{same, plain, thirds, ofTen, holds, allHold, road, offRamp, starred}
 
 pub every-starred-figure-holds : allHold asymmetric starred ≡ true
-unfolding jamBefore piecesFit pieceAt pieceCell plain thirds ofTen orLater rowInRange M leaving offFlow nodeAt flowAt offFlowAt modeAt sheetFrom sheetOf stateOf updated stateAfter same holds allHold road offRamp starred
+unfolding jamBefore piecesFit pieceAt pieceCell plain thirds ofTen orLater rowInRange M offFlow nodeAt flowAt offFlowAt modeAt sheetFrom sheetOf stateOf updated stateAfter same holds allHold road offRamp starred
 every-starred-figure-holds = refl

@@ -3,15 +3,17 @@ use Prim.Native.Nat.{ℕ, suc, _+_, _-_, _≤_, _<_}
 use mathlib.Core.Path.{_≡_}
 use mathlib.Core.List.{List}
 use native.Mathlib.Omega.{arith}
+use Rattle.whole.specs.Share.{ONE}
 use Rattle.layout.specs.Layout.{entryDemand, onDemandAt, offDemandAt}
 use Rattle.layout.specs.Corridor.{Corridor, cellsOf, rowOf, entryQueueOf, countOf, queueOf}
+use Rattle.accept_ranges.proofs.Ranges.{with-ramp-at-most}
 use Rattle.accept_tables.proofs.Accepted.{TableFits}
 use Rattle.accept_rows.proofs.Accepted.{StateFits, RowFits}
 use Rattle.period.specs.Sharing.{Sharing}
 use Rattle.period.specs.Period.{offerAt, rampOfferAt, nodeAt, flowAt, offFlowAt, onFlowAt, corridorAfter}
 use Rattle.period.specs.Fair.{Fair}
 use Rattle.period.proofs.Fair.{leaves-what-it-has}
-use Rattle.period.proofs.Nodes.{flow-in-is, flow-of-offer, flow-is-in-the-cell}
+use Rattle.period.proofs.Nodes.{flow-in-is, flow-of-offer, flow-of-sent}
 use Rattle.period.proofs.Reading.{after-entry, after-count, after-queue}
 
 module _ (way : Sharing) (fair : Fair way) (c : Corridor) (demand : List ℕ) (t : TableFits (c .table)) (s : StateFits c) (d : RowFits c demand) where
@@ -19,8 +21,9 @@ module _ (way : Sharing) (fair : Fair way) (c : Corridor) (demand : List ℕ) (t
   pub what-leaves-is-in-the-cell : (i : ℕ) → i < cellsOf c → flowAt way c demand (suc i) + offFlowAt way c demand i ≤ countOf c i
   unfolding offFlowAt
   what-leaves-is-in-the-cell i h =
-      omega
-      (arith, leaves-what-it-has (rowOf c i) (countOf c i) (offDemandAt (cellsOf c) demand i) (flowAt way c demand (suc i)) (flow-is-in-the-cell way fair c demand i (t .rows i h .v .most)))
+      let row = t .rows i h in
+      let below : rowOf c i .b < ONE = omega (arith, row .b .most, with-ramp-at-most (rowOf c i .off) 65_535) in
+      leaves-what-it-has (rowOf c i) (countOf c i) (offDemandAt (cellsOf c) demand i) (flowAt way c demand (suc i)) (row .v .most) below (flow-of-sent way fair c demand i)
 
   -- what comes from upstream and by the on-ramp fits the room
   pub what-comes-fits : (i : ℕ) → i < cellsOf c → flowAt way c demand i + onFlowAt way c demand i ≤ rowOf c i .jam - countOf c i

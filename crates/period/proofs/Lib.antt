@@ -4,6 +4,7 @@ pub mod OffRamps
 pub mod Nodes
 pub mod Reading
 pub mod Laws
+pub mod NeverCut
 pub mod Filling
 pub mod Updating
 pub mod Moving

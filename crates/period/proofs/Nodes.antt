@@ -12,13 +12,11 @@ use Rattle.layout.specs.Layout.{offDemandAt}
 use Rattle.layout.specs.Sheet.{withFlow, withOffFlow, withOnFlow, withMode}
 use Rattle.layout.specs.Corridor.{Corridor, cellsOf, rowOf, countOf}
 use Rattle.period.specs.declared.Passed.{Passed}
-use Rattle.period.specs.Cell.{M, leaving, offFlow, modeOf}
+use Rattle.period.specs.Cell.{M, offFlow, modeOf}
 use Rattle.period.specs.Sharing.{Sharing}
 use Rattle.period.specs.Fair.{Fair}
 use Rattle.period.specs.Period.{capacityNow, sentAt, offerAt, rampOfferAt, nodeAt, flowAt, offFlowAt, modeAt}
 use Rattle.period.specs.Private.{nodePassed, cellSent, cellPassed, lastPassed, Workable}
-use Rattle.period.proofs.Fair.{sends-what-it-has}
-use Rattle.period.proofs.OffRamps.{cut}
 
 module _ (way : Sharing) (c : Corridor) (demand : List ℕ) where
   -- the flow into a cell is what passes at its node; past the last cell the offer passes whole
@@ -71,11 +69,9 @@ module _ (way : Sharing) (fair : Fair way) (c : Corridor) (demand : List ℕ) wh
       by true n e = fair .mainline-of-offer _ _ _ _
       by false n e = omega arith
 
-  -- f is at most n
-  pub flow-is-in-the-cell : (i : ℕ) → rowOf c i .v ≤ 65_536 → flowAt way c demand (suc i) ≤ countOf c i
-  flow-is-in-the-cell i h =
-      omega
-      (arith, flow-of-offer (suc i), sends-what-it-has (rowOf c i) (countOf c i) (offDemandAt (cellsOf c) demand i) h)
+  -- f is at most M
+  pub flow-of-sent : (i : ℕ) → flowAt way c demand (suc i) ≤ sentAt c demand i
+  flow-of-sent i = omega (arith, flow-of-offer (suc i))
 
 -- where M is below F, whether it is below the least of F and R is whether it is below R
 least-of-both : (m capacity room : ℕ) → m < capacity → ltb m (min capacity room) ≡ ltb m room
@@ -117,11 +113,12 @@ module _ {n i count : ℕ} {c : Corridor} {demand : List ℕ} {row : Row} (read 
   unfolding offFlowAt
   off-flow-is way o f s = s ∙ rw (read .is-row, read .is-count, o, f, read .known .all)
 
-  pub is-in-the-cell : (way : Sharing) {f : ℕ} → Fair way → f ≡ flowAt way c demand (suc i) → f ≤ count
-  is-in-the-cell way fair f = rw (f, read .is-count) (flow-is-in-the-cell way fair c demand i (read .known .v))
+  -- f is at most M
+  pub is-of-sent : (way : Sharing) {o f : ℕ} → Fair way → o ≡ offDemandAt n demand i → f ≡ flowAt way c demand (suc i) → f ≤ M row count o
+  is-of-sent way fair o f = rw (f, read .is-row, read .is-count, o, read .known .all) (flow-of-sent way fair c demand i)
 
-  -- what would leave by its off-ramp, cut to what f leaves in the cell, is stored
-  pub off-stored : (way : Sharing) → Fair way → (sheet : List ℕ) {o f s least : ℕ} {before after : List ℕ} → o ≡ offDemandAt n demand i → f ≡ flowAt way c demand (suc i) → s ≡ leaving row count o f → least ≡ min s (count - f) → before ≡ cellSent way c demand n sheet i → after ≡ withOffFlow n before i least → after ≡ cellPassed way c demand n sheet i
+  -- what leaves by its off-ramp is stored
+  pub off-stored : (way : Sharing) (sheet : List ℕ) {o f s : ℕ} {before after : List ℕ} → o ≡ offDemandAt n demand i → f ≡ flowAt way c demand (suc i) → s ≡ offFlow row count o f → before ≡ cellSent way c demand n sheet i
+      → after ≡ withOffFlow n before i s → after ≡ cellPassed way c demand n sheet i
   unfolding cellPassed
-  off-stored way fair sheet o f s least before after =
-      after ∙ rw (off-flow-is way o f (least ∙ cut row count _ _ s (is-in-the-cell way fair f)), before)
+  off-stored way sheet o f s before after = after ∙ rw (off-flow-is way o f s, before)

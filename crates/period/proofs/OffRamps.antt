@@ -1,11 +1,11 @@
 -- What a cell would send, and what leaves by its off-ramp, by the off-ramp's kind. Assumes nothing.
-use Prim.Native.Nat.{ℕ, _-_, _*_, _/_, _≤_, min}
-use mathlib.Core.Path.{_≡_, ap, _∙_}
+use Prim.Native.Nat.{ℕ, _+_, _-_, _*_, _/_, _≤_, _<_, min}
+use mathlib.Core.Path.{_≡_}
 use borrow.Author.Tests.{eq-eqb, ne-eqb}
 use Rattle.whole.specs.Share.{ONE, share}
 use Rattle.layout.specs.declared.Row.{Row}
-use Rattle.period.specs.Cell.{D, M, leaving, offFlow}
-use Rattle.period.proofs.Fair.{clipped}
+use Rattle.period.specs.Cell.{D, M, offFlow}
+use Rattle.period.proofs.Fair.{leaves-what-it-has}
 
 module _ (r : Row) (n o : ℕ) where
   pub none-sends : r .off ≡ 0 → D r n ≡ M r n o
@@ -21,18 +21,18 @@ module _ (r : Row) (n o : ℕ) where
   split-sends some split = rw (ne-eqb _ _ some, ne-eqb _ _ split)
 
   module _ (f : ℕ) where
-    pub none-leaves : r .off ≡ 0 → 0 ≡ leaving r n o f
-    unfolding leaving
+    pub none-leaves : r .off ≡ 0 → 0 ≡ offFlow r n o f
+    unfolding offFlow
     none-leaves none = rw (eq-eqb _ _ none)
 
-    pub given-leaves : (r .off ≡ 0 → ⊥) → r .b ≡ 0 → min o (D r n) ≡ leaving r n o f
-    unfolding leaving
+    pub given-leaves : (r .off ≡ 0 → ⊥) → r .b ≡ 0 → min o (D r n) ≡ offFlow r n o f
+    unfolding offFlow
     given-leaves some given = rw (ne-eqb _ _ some, eq-eqb _ _ given)
 
-    pub split-leaves : (r .off ≡ 0 → ⊥) → (r .b ≡ 0 → ⊥) → f * r .b / (ONE - r .b) ≡ leaving r n o f
-    unfolding leaving
+    pub split-leaves : (r .off ≡ 0 → ⊥) → (r .b ≡ 0 → ⊥) → f * r .b / (ONE - r .b) ≡ offFlow r n o f
+    unfolding offFlow
     split-leaves some split = rw (ne-eqb _ _ some, ne-eqb _ _ split)
 
-    -- s, cut to what f leaves in the cell
-    pub cut : {s : ℕ} → s ≡ leaving r n o f → f ≤ n → min s (n - f) ≡ offFlow r n o f
-    cut is h = ap (λ s. min s (n - f)) is ∙ clipped r n o f h
+    -- what a split takes is in the cell with f
+    pub split-fits : r .v ≤ ONE → r .b < ONE → (r .off ≡ 0 → ⊥) → (r .b ≡ 0 → ⊥) → f ≤ M r n o → f + f * r .b / (ONE - r .b) ≤ n
+    split-fits v b some split h = rw (split-leaves some split) (leaves-what-it-has r n o f v b h)

@@ -1,8 +1,8 @@
 -- Rules, "One period", steps 1, 2, 4 and 7: what one cell would send, has room for and lets off, and its mode, from its row, its
 -- count n at the period's start and its off-ramp demand o. Divisions round down.
-use Prim.Native.Nat.{ℕ, _+_, _-_, _*_, _/_, min}
+use Prim.Native.Nat.{ℕ, _-_, _*_, _/_, min}
 use mathlib.Core.Bool.{Bool, _&&_}
-use lib.Dec.{eqb, leb, ltb}
+use lib.Dec.{eqb, ltb}
 use Rattle.whole.specs.Share.{ONE, share}
 use Rattle.whole.specs.Search.{pick}
 use Rattle.layout.specs.declared.Row.{Row}
@@ -23,13 +23,9 @@ byOffRamp r none split given = pick (eqb (r .off) 0) none (pick (eqb (r .b) 0) g
 unfoldable pub M : Row → ℕ → ℕ → ℕ
 M r n o = byOffRamp r (D r n) (share (D r n) (ONE - r .b)) (D r n - min o (D r n))
 
--- 4. none 0; split f·b / (ONE − b); given min(o, D)
-unfoldable pub leaving : Row → ℕ → ℕ → ℕ → ℕ
-leaving r n o f = byOffRamp r 0 (f * r .b / (ONE - r .b)) (min o (D r n))
-
--- 4. where f + s would pass n, s is n − f
+-- 4. s: none 0; split f·b / (ONE − b); given min(o, D)
 unfoldable pub offFlow : Row → ℕ → ℕ → ℕ → ℕ
-offFlow r n o f = pick (leb (f + leaving r n o f) n) (leaving r n o f) (n - f)
+offFlow r n o f = byOffRamp r 0 (f * r .b / (ONE - r .b)) (min o (D r n))
 
 -- 7. 0, free, exactly when M < F and the node downstream is clear; else 1
 abbrev pub modeOf : ℕ → ℕ → Bool → ℕ

@@ -1,8 +1,8 @@
 // One cell in one period, by the kind of its off-ramp and without a loop: numbers of 32 bits in and out, 64 between.
 ghost use mathlib.Core.Path.{_≡_};
-ghost use Prim.Native.Nat.{_-_, _*_, _/_, _≤_, _<_, min};
+ghost use Prim.Native.Nat.{_+_, _-_, _*_, _/_, _≤_, _<_};
 ghost use Rattle.whole.specs.Share.{ONE, share};
-ghost use Rattle.period.specs.Cell.{D, M, leaving, offFlow, modeOf};
+ghost use Rattle.period.specs.Cell.{D, M, offFlow, modeOf};
 use layout::Row;
 use whole::least;
 use whole::share;
@@ -23,11 +23,11 @@ pub(crate) fn split_stays(b: u32, d: u64) -> u64
 }
 
 // What leaves by a split of b, of a flow f.
-pub(crate) fn split_leaves(b: u32, f: u64) -> u64
-    requires { ⌜ (b < 65_536) × (f ≤ 4_294_967_295) ⌝ }
+pub(crate) fn split_leaves(b: u32, f: u64) -> u32
+    requires { ⌜ (b < 65_536) × (f + f * b / (ONE - b) ≤ 4_294_967_295) ⌝ }
     ensures { λ r. ⌜ r ≡ f * b / (ONE - b) ⌝ }
 {
-    f * (b as u64) / ((65_536 - b) as u64)
+    (f * (b as u64) / ((65_536 - b) as u64)) as u32
 }
 
 // M.
@@ -45,34 +45,18 @@ pub(crate) fn would_send(row: Row, n: u32, o: u32) -> u64
     split_stays(row.b, d)
 }
 
-// What would leave by the off-ramp, of a flow f.
-fn leaving(row: Row, n: u32, o: u32, f: u64) -> u64
-    requires { ⌜ (row .b < 65_536) × (f ≤ n) ⌝ }
-    ensures { λ r. ⌜ r ≡ leaving row n o f ⌝ }
+// s, of a flow f.
+pub(crate) fn off_flow(row: Row, n: u32, o: u32, f: u64) -> u32
+    requires { ⌜ (row .v ≤ 65_536) × (row .b < 65_536) × (f ≤ M row n o) ⌝ }
+    ensures { λ r. ⌜ r ≡ offFlow row n o f ⌝ }
 {
     if row.off == 0 {
         return 0;
     }
     if row.b == 0 {
-        return least(o as u64, sending(row, n));
+        return least(o as u64, sending(row, n)) as u32;
     }
     split_leaves(row.b, f)
-}
-
-// Never more than f leaves in the cell.
-pub(crate) fn cut_to(s: u64, n: u32, f: u64) -> u32
-    requires { ⌜ f ≤ n ⌝ }
-    ensures { λ r. ⌜ r ≡ min s (n - f) ⌝ }
-{
-    least(s, n as u64 - f) as u32
-}
-
-// s.
-pub(crate) fn off_flow(row: Row, n: u32, o: u32, f: u64) -> u32
-    requires { ⌜ (row .b < 65_536) × (f ≤ n) ⌝ }
-    ensures { λ r. ⌜ r ≡ offFlow row n o f ⌝ }
-{
-    cut_to(leaving(row, n, o, f), n, f)
 }
 
 // 0 where the cell is free, else 1.

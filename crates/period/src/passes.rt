@@ -97,8 +97,7 @@ fn pass_cell(n: usize, table: &[u32], state: &[u32], demand: &[u32], sheet: &mut
     ensures { λ _. ⌜ now (sheet .exit) ≡ cellPassed asymmetric (corridorOf (now (table .entry)) (now (state .entry))) (now (demand .entry)) n (now (sheet .entry)) i ⌝ }
 {
     let row = row_at(table, i);
-    let count = count_at(state, i);
-    let d = sending(row, count);
+    let d = sending(row, count_at(state, i));
     if row.off == 0 {
         send(n, table, state, demand, sheet, i, d);
         put_off_flow(sheet, n, i, 0);
@@ -106,12 +105,12 @@ fn pass_cell(n: usize, table: &[u32], state: &[u32], demand: &[u32], sheet: &mut
     }
     if row.b == 0 {
         let s = least(off_demand_at(n, demand, i) as u64, d);
-        let f = send(n, table, state, demand, sheet, i, d - s);
-        put_off_flow(sheet, n, i, cut_to(s, count, f));
+        send(n, table, state, demand, sheet, i, d - s);
+        put_off_flow(sheet, n, i, s as u32);
         return;
     }
     let f = send(n, table, state, demand, sheet, i, split_stays(row.b, d));
-    put_off_flow(sheet, n, i, cut_to(split_leaves(row.b, f), count, f));
+    put_off_flow(sheet, n, i, split_leaves(row.b, f));
 }
 
 // The last cell, of index i: past it there is room for any flow.

@@ -1,6 +1,6 @@
 -- Bounds on a share over ONE. Assumes nothing.
 use Prim.Native.Nat.{ℕ, _+_, _-_, _*_, _^_, _≤_, _<_}
-use native.Mathlib.Nat.{mul-le-mul, mul-le-mul-left, mul-le-mul-right, add-mul}
+use native.Mathlib.Nat.{mul-le-mul, mul-le-mul-right, add-mul}
 use native.Mathlib.Omega.{arith}
 use Rattle.whole.specs.Share.{ONE, share}
 
@@ -14,13 +14,6 @@ product-fits a b ha hb =
 pub share-within : (a whole : ℕ) → a ≤ ONE → share a whole ≤ whole
 share-within a whole h = omega (arith, mul-le-mul-right whole h)
 
-pub part-within : (whole b : ℕ) → b ≤ ONE → share whole b ≤ whole
-part-within whole b h = omega (arith, mul-le-mul-left whole h)
-
 -- two shares that make at most ONE take no more than the whole between them
 pub shares-fit : (w x whole : ℕ) → w + x ≤ ONE → share w whole + share x whole ≤ whole
 shares-fit w x whole h = omega (arith, mul-le-mul-right whole h, add-mul w x whole)
-
--- the same share of more is no less
-pub share-grows : (a b c : ℕ) → b ≤ c → share a b ≤ share a c
-share-grows a b c h = omega (arith, mul-le-mul-left a h)

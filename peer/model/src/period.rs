@@ -54,8 +54,7 @@ pub(crate) fn step(rows: Rows, state: &mut [u32], demand: &[u32], sheet: &mut [u
         } else {
             wanted = part(ONE - cell.b, ready);
             flow = wanted.min(most);
-            let split = u64::from(flow) * u64::from(cell.b) / u64::from(ONE - cell.b);
-            off_flow = split.min(u64::from(count - flow)) as u32;
+            off_flow = (u64::from(flow) * u64::from(cell.b) / u64::from(ONE - cell.b)) as u32;
         }
 
         // Without an on-ramp the queue, the demand, x and c are all 0.
@@ -98,8 +97,7 @@ pub(crate) fn step_indexed(rows: Rows, state: &mut [u32], demand: &[u32], sheet:
         } else {
             wanted = part(ONE - cell.b, ready);
             let flow = u64::from(wanted.min(most));
-            let split = flow * u64::from(cell.b) / u64::from(ONE - cell.b);
-            off_flow = split.min(u64::from(count) - flow) as u32;
+            off_flow = (flow * u64::from(cell.b) / u64::from(ONE - cell.b)) as u32;
         }
         let flow = wanted.min(most);
 

@@ -50,7 +50,7 @@ fn off_ramps() {
 }
 
 #[test]
-fn clipped_off_ramp() {
+fn what_leaves_was_there() {
     // D is 4, M is 4·1/65,536 rounded down to 0, so f is 0 and s is 0.
     let mostly_off = row(&[(0, 65_536), (2, 1_000_000), (7, 7), (8, 65_535)]);
     assert_eq!(one_cell(mostly_off, [0, 4, 0], [0; 3]), ([0, 4, 0], [0, 0, 0, 0, 0]));
@@ -59,7 +59,7 @@ fn clipped_off_ramp() {
         one_cell(row(&[(0, 65_536), (2, 1_000_000), (3, 4_000_000), (7, 7), (8, 65_535)]), [0, 65_536, 0], [0; 3]),
         ([0, 0, 0], [0, 1, 65_535, 0, 0])
     );
-    // With v at ONE the split of what left never passes n, as f is at most n·(ONE − b)/ONE.
+    // With v at ONE f and s together are at most n, as f is at most n·(ONE − b)/ONE.
     let half = row(&[(0, 65_536), (2, 1_000_000), (7, 7), (8, 32_768)]);
     assert_eq!(one_cell(half, [0, 3, 0], [0; 3]), ([0, 1, 0], [0, 1, 1, 0, 0]));
 }

@@ -7,8 +7,8 @@ use Rattle.whole.proofs.Shares.{share-within}
 use Rattle.layout.specs.Corridor.{corridorOf}
 use Rattle.period.specs.Sharing.{asymmetric}
 use Rattle.period.proofs.Fair.{asymmetric-is-fair}
-use Rattle.period.proofs.OffRamps.{none-sends, given-sends, split-sends, none-leaves, given-leaves, split-leaves}
-use Rattle.period.proofs.Nodes.{CellRead, off-stored, v-fits, b-fits, sent-is, is-in-the-cell}
+use Rattle.period.proofs.OffRamps.{none-sends, given-sends, split-sends, none-leaves, given-leaves, split-leaves, split-fits}
+use Rattle.period.proofs.Nodes.{CellRead, off-stored, v-fits, b-fits, sent-is, is-of-sent}
 use borrow.Author.Needs.{needs}
 use Rattle.period.proofs.passes.pass_cell.Statement.{statement}
 use Rattle.period.proofs.passes.pass_cell.Tie as tie
@@ -31,7 +31,7 @@ returns c =
     let stored = c .before .before in
     let passed = stored .before .before .before .before in
     let none = passed .before .before in
-    off-stored (here (none .before .before)) asymmetric asymmetric-is-fair _ refl (passed .send .ensures .0) (none-leaves _ _ _ _ (none .if1 .taken)) (omega arith) (passed .send .ensures .1) (stored .put-off-flow .ensures)
+    off-stored (here (none .before .before)) asymmetric _ refl (passed .send .ensures .0) (none-leaves _ _ _ _ (none .if1 .taken)) (passed .send .ensures .1) (stored .put-off-flow .ensures)
 
 send-requires-2 : tie.Need-send-requires-2
 send-requires-2 c κs =
@@ -44,29 +44,23 @@ send-requires-2 c κs =
     let m = sent-is (here sent) (o .ensures) (ap₂ (λ a b. a - b) d (c .before .least .ensures ∙ ap (min (o .result)) d) ∙ given-sends _ _ _ (some .if1 .left) (given .if2 .taken)) in
     (start .pre .0, (m, start .pre .1))
 
-cut-to-requires : tie.Need-cut-to-requires
-cut-to-requires c κs =
-    let passed = c .before .before .before in
-    let sent = passed .before .before .before .before .before .before .before .before in
-    is-in-the-cell (here sent) asymmetric asymmetric-is-fair (passed .send2 .ensures .0)
-
 put-off-flow-requires-2 : tie.Need-put-off-flow-requires-2
 put-off-flow-requires-2 c κs =
-    let passed = c .before .before .before .before in
+    let passed = c .before .before .before in
     let start = begin (passed .before .before .before .before .before .before .before .before) in
     omega (arith, passed .send2 .kept .1 .1 .1 .1 .0, start .pre .1, start .pre .0 .0 .inside)
 
 returns-2 : tie.Need-returns-2
 returns-2 c =
     let stored = c .before .before in
-    let passed = stored .before .before .before .before .before in
+    let passed = stored .before .before .before .before in
     let taken = passed .before .before in
     let given = taken .before .before in
     let some = given .before .before in
     let sent = some .before .before in
     let o = taken .before .off-demand-at in
     let leaves = taken .least .ensures ∙ ap (min (o .result)) (sent .sending .ensures) ∙ given-leaves _ _ _ _ (some .if1 .left) (given .if2 .taken) in
-    off-stored (here sent) asymmetric asymmetric-is-fair _ (o .ensures) (passed .send2 .ensures .0) leaves (stored .before .cut-to .ensures) (passed .send2 .ensures .1) (stored .put-off-flow2 .ensures)
+    off-stored (here sent) asymmetric _ (o .ensures) (passed .send2 .ensures .0) leaves (passed .send2 .ensures .1) (stored .put-off-flow2 .ensures)
 
 split-stays-requires : tie.Need-split-stays-requires
 split-stays-requires c κs =
@@ -85,30 +79,27 @@ send-requires-3 c κs =
 split-leaves-requires : tie.Need-split-leaves-requires
 split-leaves-requires c κs =
     let passed = c .before .before .before in
-    let sent = passed .before .before .before .before .before .before .before in
-    (b-fits (here sent), omega (arith, is-in-the-cell (here sent) asymmetric asymmetric-is-fair (passed .send3 .ensures .0)))
-
-cut-to-requires-2 : tie.Need-cut-to-requires-2
-cut-to-requires-2 c κs =
-    let passed = c .before .before .before .before in
-    let sent = passed .before .before .before .before .before .before .before in
-    is-in-the-cell (here sent) asymmetric asymmetric-is-fair (passed .send3 .ensures .0)
+    let split = passed .before .before .before in
+    let some = split .before .before in
+    let read = here (some .before .before) in
+    let sent = is-of-sent read asymmetric asymmetric-is-fair refl (passed .send3 .ensures .0) in
+    (b-fits read, omega (arith, split-fits _ _ _ _ (v-fits read) (b-fits read) (some .if1 .left) (split .if2 .left) sent))
 
 put-off-flow-requires-3 : tie.Need-put-off-flow-requires-3
 put-off-flow-requires-3 c κs =
-    let passed = c .before .before .before .before .before in
+    let passed = c .before .before .before .before in
     let start = begin (passed .before .before .before .before .before .before .before) in
     omega (arith, passed .send3 .kept .1 .1 .1 .1 .0, start .pre .1, start .pre .0 .0 .inside)
 
 returns-3 : tie.Need-returns-3
 returns-3 c =
     let stored = c .before .before in
-    let left = stored .before .before in
+    let left = stored .before in
     let passed = left .before .before .before .before in
     let split = passed .before .before .before in
     let some = split .before .before in
     let leaves = left .split-leaves .ensures ∙ split-leaves _ _ _ _ (some .if1 .left) (split .if2 .left) in
-    off-stored (here (some .before .before)) asymmetric asymmetric-is-fair _ refl (passed .send3 .ensures .0) leaves (stored .before .cut-to2 .ensures) (passed .send3 .ensures .1) (stored .put-off-flow3 .ensures)
+    off-stored (here (some .before .before)) asymmetric _ refl (passed .send3 .ensures .0) leaves (passed .send3 .ensures .1) (stored .put-off-flow3 .ensures)
 
 pub pass-cell-spec : {M : Type 1} → statement M
 pass-cell-spec =
@@ -126,14 +117,13 @@ pass-cell-spec =
     (λ c κs. search needs)
     (λ c. search needs)
     send-requires-2
-    cut-to-requires
+    (λ c. search needs)
     put-off-flow-requires-2
     (λ c. search needs)
     returns-2
     split-stays-requires
     send-requires-3
     split-leaves-requires
-    cut-to-requires-2
     put-off-flow-requires-3
     (λ c. search needs)
     returns-3)

@@ -7,7 +7,7 @@ use Rattle.layout.specs.Corridor.{corridorOf}
 use Rattle.period.specs.Sharing.{asymmetric}
 use Rattle.period.specs.Period.{sentAt, flowAt}
 use Rattle.period.proofs.Fair.{asymmetric-is-fair}
-use Rattle.period.proofs.Nodes.{CellRead, last-flow-is, last-stored, v-fits, b-fits, sent-is, off-flow-is, is-in-the-cell}
+use Rattle.period.proofs.Nodes.{CellRead, last-flow-is, last-stored, v-fits, b-fits, sent-is, off-flow-is, is-of-sent}
 use borrow.Author.Needs.{needs}
 use Rattle.period.proofs.passes.pass_last.Statement.{statement}
 use Rattle.period.proofs.passes.pass_last.Tie as tie
@@ -40,7 +40,7 @@ off-flow-requires : tie.Need-off-flow-requires
 off-flow-requires c κs =
     let f = c .before .before .before .before .before .before .before .before .before .before in
     let read = f .before .before .before in
-    (b-fits (here read), is-in-the-cell (here read) asymmetric asymmetric-is-fair (flows f))
+    (v-fits (here read), b-fits (here read), is-of-sent (here read) asymmetric asymmetric-is-fair (read .off-demand-at .ensures) (flows f))
 
 put-off-flow-requires : tie.Need-put-off-flow-requires
 put-off-flow-requires c κs =
