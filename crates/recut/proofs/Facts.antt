@@ -1,6 +1,6 @@
 -- What an accepted re-cut is known to start from, cell by cell and piece by piece. Assumes nothing.
 use Prim.Native.Nat.{ℕ, suc, _+_, _-_, _≤_, _<_}
-use mathlib.Core.Path.{_≡_, refl}
+use mathlib.Core.Path.{_≡_, refl, ap, _∙_}
 use mathlib.Core.Bool.{true, not, _&&_}
 use mathlib.Core.List.{List, [], _∷_}
 use native.Mathlib.Omega.{arith}
@@ -14,7 +14,7 @@ use Rattle.refusals.specs.declared.Answer.the-variants.{Accepted}
 use Rattle.refusals.specs.Checks.{Check, answer}
 use Rattle.refusals.proofs.Answers.{accepted-passes, passes-accepted, accepted-both, both-accepted}
 use Rattle.layout.specs.Layout.{MOST, cells, rowAt, stateLength}
-use Rattle.layout.specs.Corridor.{Corridor, cellsOf}
+use Rattle.layout.specs.Corridor.{Corridor, cellsOf, rowOf}
 use Rattle.accept_ranges.proofs.Ranges.{Between}
 use Rattle.accept_tables.specs.Tables.{tableLengthFits, tableNumbers, rowsInRange, roomsShared, rampsOnce, bothTables}
 use Rattle.accept_tables.proofs.Accepted.{TableFits, table-fits}
@@ -156,6 +156,12 @@ module _ (old : Corridor) (pieces new : List ℕ) (known : CutFits old pieces ne
             omega
             (arith, jams-with, known .each (piece .cell) (the-piece .cell-is) .jams, sum-grows (piece .number + 1) all (λ m. rowAt new (first + m) .jam) (omega (arith, the-piece .number-is)));
       }
+
+  -- with the last piece of a cell all its jam count is there
+  pub last-is-whole : pieceCount pieces (piece .cell) ≤ piece .number + 1 → piece .before + rowAt new j .jam ≡ rowOf old (piece .cell) .jam
+  last-is-whole last =
+      let count : piece .number + 1 ≡ pieceCount pieces (piece .cell) = omega (arith, the-piece .number-is) in
+      jams-with ∙ ap (jamBefore new (firstPiece pieces (piece .cell))) count ∙ known .each (piece .cell) (the-piece .cell-is) .jams
 
   pub next-asks : (piece .cell < length pieces) × (piece .number < MOST) × (piece .before ≤ 4_000_000)
   next-asks =

@@ -1,8 +1,10 @@
--- The shares of a cut cell: they grow with C and never pass the whole. Assumes nothing.
-use Prim.Native.Nat.{ℕ, _*_, _/_, _≤_, _<_}
-use mathlib.Core.Path.{_≡_}
-use native.Mathlib.Nat.{mul-le-mul-left, div-mul-le-self, le-div-iff-mul-le, div-le-of-le-mul, mul-comm, mul-zero, zero-div}
+-- The shares of a cut cell: they grow with C, never pass the whole, and are what the steps by hand give. Assumes nothing.
+use Prim.Native.Nat.{ℕ, _+_, _*_, _/_, _%_, _≤_, _<_}
+use mathlib.Core.Path.{_≡_, sym, ap, _∙_}
+use native.Mathlib.Nat.{mul-le-mul-left, div-mul-le-self, le-div-iff-mul-le, div-le-of-le-mul, mul-comm, mul-zero, mul-add, zero-div, zero-mod, mod-add-div', mul-mod-left, add-mul-div-right, add-mul-mod-self-right}
 use native.Mathlib.Omega.{arith}
+use borrow.Author.Tests.{ne-eqb}
+use Rattle.recut.specs.Recut.{pieceVehicles, byHand}
 
 pub share-grows : (n J C C′ : ℕ) → 0 < J → C ≤ C′ → n * C / J ≤ n * C′ / J
 share-grows n J C C′ h grows = le-div-iff-mul-le h .1 (omega (arith, div-mul-le-self (n * C) J, mul-le-mul-left n grows))
@@ -12,3 +14,23 @@ share-at-most n J C h most = div-le-of-le-mul J (omega (arith, mul-le-mul-left n
 
 pub share-of-none : (n J : ℕ) → n * 0 / J ≡ 0
 share-of-none n J = rw mul-zero (zero-div J)
+
+-- by hand: n·j with the remainder of n·C over J is n·(C + j) but for the whole times that J goes into n·C
+by-parts : (n J C j : ℕ) → n * (C + j) ≡ (n * j + n * C % J) + n * C / J * J
+by-parts n J C j = omega (arith, mul-add n C j, mod-add-div' (n * C) J)
+
+pub share-by-remainder : (n J C j : ℕ) → 0 < J → byHand n J j (n * C % J) ≡ record { vehicles = pieceVehicles n J C j; rest = n * (C + j) % J }
+unfolding byHand
+share-by-remainder n J C j some =
+    let parts = by-parts n J C j in
+    let wholly : n * (C + j) / J ≡ (n * j + n * C % J) / J + n * C / J = ap (λ x. x / J) parts ∙ add-mul-div-right (n * j + n * C % J) (n * C / J) some in
+    let vehicles : (n * j + n * C % J) / J ≡ pieceVehicles n J C j = omega (arith, wholly) in
+    let rest : (n * j + n * C % J) % J ≡ n * (C + j) % J = sym (ap (λ x. x % J) parts ∙ add-mul-mod-self-right (n * j + n * C % J) (n * C / J) J) in
+    rw (ne-eqb J 0 (omega arith)) (λ i. record { vehicles = vehicles i; rest = rest i })
+
+-- nothing is left before the first piece, nor by the last
+pub none-left-before : (n J : ℕ) → n * 0 % J ≡ 0
+none-left-before n J = rw mul-zero (zero-mod J)
+
+pub last-leaves-none : (n J : ℕ) → n * J % J ≡ 0
+last-leaves-none n J = mul-mod-left n J

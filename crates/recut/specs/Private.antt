@@ -1,16 +1,25 @@
 -- Cited by private contracts and proofs alone: no public promise rests on this file.
 -- What the functions of a re-cut ask of each other.
-use Prim.Native.Nat.{ℕ, _+_, _*_, _/_, _≤_, _<_}
+use Prim.Native.Nat.{ℕ, _+_, _*_, _%_, _≤_, _<_}
 use mathlib.Core.Path.{_≡_}
 use mathlib.Core.List.{List}
 use lib.ListN.{length}
 use Rattle.layout.specs.Layout.{MOST, cells, stateLength}
 use Rattle.layout.specs.Corridor.{Corridor, cellsOf, rowOf, countOf}
 use Rattle.recut.specs.declared.Piece.{Piece}
+use Rattle.recut.specs.declared.Filled.{Filled}
+use Rattle.recut.specs.Recut.{pieceCell}
 
--- what the pieces of a cell before this one have got of its vehicles
-abbrev pub givenBefore : Corridor → Piece → ℕ
-givenBefore old piece = countOf old (piece .cell) * piece .before / rowOf old (piece .cell) .jam
+-- the remainder that the pieces of a cell before this one leave to it, and the one that they leave with it
+abbrev pub restBefore : Corridor → Piece → ℕ
+restBefore old piece = countOf old (piece .cell) * piece .before % rowOf old (piece .cell) .jam
+
+abbrev pub restAfter : Corridor → Piece → ℕ → ℕ
+restAfter old piece jam = countOf old (piece .cell) * (piece .before + jam) % rowOf old (piece .cell) .jam
+
+-- a piece as it is filled
+abbrev pub filled : Corridor → Piece → ℕ → Filled
+filled old piece jam = record { cell = pieceCell old piece jam; rest = restAfter old piece jam }
 
 -- what the work on a piece of that jam count asks: it lies in its cell, which holds no more than its J
 pub record Cuttable (old : Corridor) (piece : Piece) (jam : ℕ) : Type 0 where

@@ -1,5 +1,5 @@
 -- Rules, "Re-cut": the new state, and what is refused.
-use Prim.Native.Nat.{ℕ, _+_, _-_, _*_, _/_}
+use Prim.Native.Nat.{ℕ, _+_, _-_, _*_, _/_, _%_}
 use mathlib.Core.Path.{_≡_}
 use mathlib.Core.Bool.{Bool, _&&_}
 use mathlib.Core.List.{List, [], _∷_, _++_}
@@ -16,11 +16,17 @@ use Rattle.layout.specs.Corridor.{Corridor, corridorOf, cellsOf, rowOf, entryQu
 use Rattle.accept_tables.specs.Tables.{tableLengthFits, bothTables}
 use Rattle.accept_rows.specs.Acceptance.{stateInRange}
 use Rattle.recut.specs.declared.Piece.{Piece}
+use Rattle.recut.specs.declared.Share.{Share}
 use Rattle.recut.specs.Pieces.{pieceCount, cellIsCut, pieceAt}
 
 -- the vehicles of a piece: n·C/J − n·C'/J, each rounded down, with C' the sum of J before it and C the sum with it
 abbrev pub pieceVehicles : ℕ → ℕ → ℕ → ℕ → ℕ
 pieceVehicles n J before jam = n * (before + jam) / J - n * before / J
+
+-- the same by hand, with the remainder that the piece before left: n·j and it, divided by J, give the vehicles and leave the next remainder
+unfoldable pub byHand : ℕ → ℕ → ℕ → ℕ → Share
+byHand n J jam rest =
+    pick (eqb J 0) (record { vehicles = 0; rest = 0 }) (record { vehicles = (n * jam + rest) / J; rest = (n * jam + rest) % J })
 
 -- what a piece of that jam count becomes: its vehicles, and the on-ramp queue, which goes to the first piece
 unfoldable pub pieceCell : Corridor → Piece → ℕ → Cell

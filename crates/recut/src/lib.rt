@@ -1,12 +1,11 @@
 // The re-cut: each old cell becomes consecutive new cells, and its vehicles, its queue and its ramps go on under the new table.
 ghost use mathlib.Core.Path.{_≡_};
-ghost use Prim.Native.Nat.{_+_, _*_, _/_, _≤_, _<_};
 ghost use lib.Dec.{eqb};
 ghost use Rattle.whole.specs.Search.{pick};
 ghost use Rattle.layout.specs.Corridor.{corridorOf};
 ghost use Rattle.refusals.specs.Checks.{answer};
-ghost use Rattle.recut.specs.Private.{givenBefore, Cuttable, Countable};
-ghost use Rattle.recut.specs.Recut.{pieceVehicles, pieceCell, newState, recutListsFit, piecesNumbers, recutChecks, RecutDone};
+ghost use Rattle.recut.specs.Private.{restBefore, filled, Cuttable, Countable};
+ghost use Rattle.recut.specs.Recut.{byHand, newState, recutListsFit, piecesNumbers, recutChecks, RecutDone};
 
 mod pieces;
 
@@ -22,35 +21,60 @@ pub struct Piece {
     pub before: u64,
 }
 
-// The vehicles of a piece of the given jam count, of a cell that holds n and has jam count whole; its pieces before got the given ones.
-fn piece_vehicles(n: u32, whole: u32, before: u64, jam: u32, given: u32) -> u32
-    requires { ⌜ (0 < whole) × (n ≤ whole) × (before + jam ≤ whole) × (given ≡ n * before / whole) ⌝ }
-    ensures { λ r. ⌜ r ≡ pieceVehicles n whole before jam ⌝ }
-{
-    let upto = n as u64 * (before + jam as u64) / (whole as u64);
-    upto as u32 - given
+// The share of a piece, worked out by hand: its vehicles, and the remainder that it leaves to the next piece.
+pub struct Share {
+    pub vehicles: u64,
+    pub rest: u32,
 }
 
-// What the piece of that number gets where a cell's first piece gets one thing and each later one another.
-fn first_or_later(number: usize, first: u32, later: u32) -> u32
-    ensures { λ r. ⌜ r ≡ pick (eqb number 0) first later ⌝ }
-{
-    if number == 0 { first } else { later }
+// A piece as it is filled: the new cell, and the remainder that it leaves.
+struct Filled {
+    cell: Cell,
+    rest: u32,
 }
 
-// What a piece of the given jam count becomes; its cell's pieces before it got the given vehicles.
-fn piece_cell(old: &[u32], state: &[u32], piece: Piece, jam: u32, given: u32) -> Cell
+// The share of a piece of the given jam count, of a cell that holds n and has jam count whole, with the remainder that the piece before
+// it left. A cell of no jam count has nothing to share.
+pub fn share_by_hand(n: u32, whole: u32, jam: u32, rest: u32) -> Share
+    ensures { λ r. ⌜ r ≡ byHand n whole jam rest ⌝ }
+{
+    if whole == 0 {
+        return Share {
+            vehicles: 0,
+            rest: 0,
+        };
+    }
+    let all = n as u64 * jam as u64 + rest as u64;
+    Share {
+        vehicles: all / (whole as u64),
+        rest: (all % (whole as u64)) as u32,
+    }
+}
+
+// What the piece of that number gets of its cell's queue: the first piece has it.
+fn piece_queue(number: usize, queue: u32) -> u32
+    ensures { λ r. ⌜ r ≡ pick (eqb number 0) queue 0 ⌝ }
+{
+    if number == 0 { queue } else { 0 }
+}
+
+// What a piece of the given jam count becomes, with the remainder that the piece before it left.
+fn fill(old: &[u32], state: &[u32], piece: Piece, jam: u32, rest: u32) -> Filled
     requires { ⌜ Cuttable (corridorOf (now old) (now state)) piece jam ⌝ }
-    requires { ⌜ given ≡ givenBefore (corridorOf (now old) (now state)) piece ⌝ }
-    ensures { λ r. ⌜ r ≡ pieceCell (corridorOf (now (old .entry)) (now (state .entry))) piece jam ⌝ }
+    requires { ⌜ rest ≡ restBefore (corridorOf (now old) (now state)) piece ⌝ }
+    ensures { λ r. ⌜ r ≡ filled (corridorOf (now (old .entry)) (now (state .entry))) piece jam ⌝ }
 {
-    let cell = piece.cell;
-    let row = row_at(old, cell);
-    let count = piece_vehicles(count_at(state, cell), row.jam, piece.before, jam, given);
-    let queue = queue_at(cells(old), state, cell);
-    Cell {
-        count: count,
-        queue: first_or_later(piece.number, queue, 0),
+    let i = piece.cell;
+    let row = row_at(old, i);
+    let share = share_by_hand(count_at(state, i), row.jam, jam, rest);
+    let queue = piece_queue(piece.number, queue_at(cells(old), state, i));
+    let cell = Cell {
+        count: share.vehicles as u32,
+        queue,
+    };
+    Filled {
+        cell,
+        rest: share.rest,
     }
 }
 
@@ -65,14 +89,14 @@ fn cut(old: &[u32], state: &[u32], pieces: &[u32], new: &[u32], list: &mut [u32]
         number: 0,
         before: 0,
     };
-    let mut given = 0;
+    let mut rest = 0;
     let mut j = 0;
     while j < n {
         let row = row_at(new, j);
-        let cell = piece_cell(old, state, piece, row.jam, given);
-        put_cell(list, n, j, cell);
+        let filled = fill(old, state, piece, row.jam, rest);
+        put_cell(list, n, j, filled.cell);
         piece = next_piece(pieces, piece, row.jam);
-        given = first_or_later(piece.number, 0, given + cell.count);
+        rest = filled.rest;
         j += 1;
     }
     put_entry(list, entry_queue(state));

@@ -3,6 +3,7 @@
 use layout::cells;
 use layout::ramp_at;
 use layout::ramp_positions;
+use layout::row_at;
 use refusals::Answer;
 
 // One cell with on-ramp 11 and off-ramp 12, in the columns v, w, F, J, on, x, c, off, b.
@@ -70,6 +71,29 @@ fn show_ramps(table: &[u32]) {
     io::write_all(1, b"\n");
 }
 
+// Prints how a cell that holds n is shared out by hand among the cells that it is cut into: n times each one's J with the remainder that the one
+// before left, divided by the cell's J.
+fn show_shares(n: u32, whole: u32, new: &[u32]) {
+    let pieces = cells(new);
+    let mut rest: u32 = 0;
+    let mut j: usize = 0;
+    while j < pieces {
+        let jam = row_at(new, j).jam;
+        let share = recut::share_by_hand(n, whole, jam, rest);
+        io::write_all(1, b"n*j ");
+        io::print_decimal(1, n as u64 * jam as u64);
+        io::write_all(1, b" and remainder ");
+        io::print_decimal(1, rest as u64);
+        io::write_all(1, b": share ");
+        io::print_decimal(1, share.vehicles);
+        io::write_all(1, b", leaves ");
+        io::print_decimal(1, share.rest as u64);
+        io::write_all(1, b"\n");
+        rest = share.rest;
+        j += 1;
+    }
+}
+
 fn main() {
     let mut state = [0u32, 6_001, 300];
     let mut sheet = [0u32; 5];
@@ -86,6 +110,7 @@ fn main() {
     show_ramps(&NEW);
     io::write_all(1, b"cut into three: ");
     show::answer(recut::recut(&OLD, &state, &[3], &NEW, &mut cut));
+    show_shares(state[1], 12_000, &NEW);
     show_state(b"shares: Q n n n q q q", 3, &cut);
     let mut new_sheet = [0u32; 13];
     ten_periods(&NEW, &mut cut, &[800, 600, 0, 0, 0, 0, 0], &mut new_sheet);
