@@ -6,22 +6,50 @@ use mathlib.Core.List.{List}
 use native.Mathlib.Numerals.{add-one}
 use native.Mathlib.Omega.{arith}
 use borrow.Author.Tests.{ltb-false}
-use lib.Dec.{ltb}
+use lib.Dec.{ltb, eqb}
 use lib.ListN.{length}
 use Rattle.whole.specs.Search.{pick}
 use Rattle.layout.specs.declared.Row.{Row}
 use Rattle.layout.specs.Laid.{withEntry}
-use Rattle.layout.specs.Layout.{MOST, cells, rowAt, stateLength, stateColumns, stateOf, withCell}
-use Rattle.layout.specs.Corridor.{Corridor, rowOf, entryQueueOf, countOf}
+use Rattle.layout.specs.Layout.{MOST, cells, rowAt, stateLength, queueAt, stateColumns, stateOf, withCell}
+use Rattle.layout.specs.Corridor.{Corridor, cellsOf, rowOf, entryQueueOf, countOf, queueOf}
 use Rattle.layout.proofs.Laid.{Laying, laying-none, laying-whole}
 use Rattle.layout.proofs.States.{cell-stored}
 use Rattle.recut.specs.declared.Piece.{Piece}
+use Rattle.recut.specs.declared.Share.{Share}
 use Rattle.recut.specs.declared.Filled.{Filled}
 use Rattle.recut.specs.Pieces.{pieceCount, nextPiece, pieceAt}
-use Rattle.recut.specs.Recut.{newCell, newState}
+use Rattle.recut.specs.Recut.{pieceVehicles, byHand, pieceCell, newCell, newState}
 use Rattle.recut.specs.Private.{restBefore, restAfter, filled, Cuttable}
-use Rattle.recut.proofs.Shares.{none-left-before, last-leaves-none}
+use Rattle.recut.proofs.Shares.{share-at-most, share-by-remainder, none-left-before, last-leaves-none}
 use Rattle.recut.proofs.Facts.{CutFits, cuttable, last-is-whole, next-asks}
+
+-- what a share and a queue are worked out from
+module _ (old : Corridor) (piece : Piece) where
+  pub shared-from : (jam : ℕ) {share : Share} {row : Row} {count rest : ℕ} → share ≡ byHand count (row .jam) jam rest → count ≡ countOf old (piece .cell) → row ≡ rowOf old (piece .cell) → rest ≡ restBefore old piece
+      → share ≡ byHand (countOf old (piece .cell)) (rowOf old (piece .cell) .jam) jam (restBefore old piece)
+  shared-from jam share count row rest = share ∙ rw (count, row, rest)
+
+  pub queue-from : {queue waits n : ℕ} → queue ≡ pick (eqb (piece .number) 0) waits 0 → waits ≡ queueAt n (old .state) (piece .cell) → n ≡ cellsOf old → queue ≡ pick (eqb (piece .number) 0) (queueOf old (piece .cell)) 0
+  queue-from queue waits n = queue ∙ rw (waits, n)
+
+-- a piece that is shared out by hand from what is left before it is filled as the rule has it
+module _ (old : Corridor) (piece : Piece) (jam : ℕ) {share : Share} (work : Cuttable old piece jam) (is : share ≡ byHand (countOf old (piece .cell)) (rowOf old (piece .cell) .jam) jam (restBefore old piece)) where
+  abbrev n : ℕ
+  n = countOf old (piece .cell)
+
+  abbrev J : ℕ
+  J = rowOf old (piece .cell) .jam
+
+  share-as-ruled : share ≡ record { vehicles = pieceVehicles n J (piece .before) jam; rest = restAfter old piece jam }
+  share-as-ruled = is ∙ share-by-remainder n J (piece .before) jam (work .some)
+
+  pub share-is-held : share .vehicles ≤ n
+  share-is-held = rw share-as-ruled (omega (arith, share-at-most n J (piece .before + jam) (work .some) (work .within)))
+
+  pub fills : {queue : ℕ} → queue ≡ pick (eqb (piece .number) 0) (queueOf old (piece .cell)) 0 → record { cell = record { count = share .vehicles; queue = queue }; rest = share .rest } ≡ filled old piece jam
+  unfolding pieceCell
+  fills queue-is = rw (share-as-ruled, queue-is)
 
 -- what a piece leaves is what is left before the next one; the last piece of a cell leaves nothing, and before a first piece there is nothing
 leaves-on : (old : Corridor) (pieces : List ℕ) (piece : Piece) (jam : ℕ) → (pieceCount pieces (piece .cell) ≤ piece .number + 1 → piece .before + jam ≡ rowOf old (piece .cell) .jam)

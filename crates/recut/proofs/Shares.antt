@@ -1,7 +1,7 @@
 -- The shares of a cut cell: they grow with C, never pass the whole, and are what the steps by hand give. Assumes nothing.
 use Prim.Native.Nat.{ℕ, _+_, _*_, _/_, _%_, _≤_, _<_}
 use mathlib.Core.Path.{_≡_, sym, ap, _∙_}
-use native.Mathlib.Nat.{mul-le-mul-left, div-mul-le-self, le-div-iff-mul-le, div-le-of-le-mul, mul-comm, mul-zero, mul-add, zero-div, zero-mod, mod-add-div', mul-mod-left, add-mul-div-right, add-mul-mod-self-right}
+use native.Mathlib.Nat.{mul-le-mul, mul-le-mul-left, div-mul-le-self, le-div-iff-mul-le, div-le-of-le-mul, mul-comm, mul-zero, mul-add, zero-div, zero-mod, mod-add-div', mul-mod-left, add-mul-div-right, add-mul-mod-self-right}
 use native.Mathlib.Omega.{arith}
 use borrow.Author.Tests.{ne-eqb}
 use Rattle.recut.specs.Recut.{pieceVehicles, byHand}
@@ -34,3 +34,7 @@ none-left-before n J = rw mul-zero (zero-mod J)
 
 pub last-leaves-none : (n J : ℕ) → n * J % J ≡ 0
 last-leaves-none n J = mul-mod-left n J
+
+-- a product of two numbers of 32 bits with one more fits 64 bits
+pub product-with-rest : (n j rest : ℕ) → n ≤ 4_294_967_295 → j ≤ 4_294_967_295 → rest ≤ 4_294_967_295 → n * j + rest ≤ 18_446_744_069_414_584_320
+product-with-rest n j rest hn hj hr = omega (arith, mul-le-mul hn hj)

@@ -7,15 +7,15 @@ use lib.ListN.{length}
 use Rattle.layout.specs.Layout.{cells, stateLength}
 use Rattle.layout.specs.Corridor.{corridorOf}
 use Rattle.recut.proofs.Facts.{lengths-accepted, cut-fits}
-use Rattle.recut.proofs.Cutting.{Cutting, begins, work, next-asked, given-fits, goes-on, ends}
+use Rattle.recut.proofs.Cutting.{Cutting, begins, work, next-asked, goes-on, ends}
 use Rattle.recut.proofs.cut.Statement.{statement}
 use Rattle.recut.proofs.cut.Tie as tie
 
 abbrev Inv-loop : tie.InvT-loop
-Inv-loop old state pieces new list₀ n piece₀ given₀ j₀ list piece given j = Cutting (corridorOf old state) pieces new n list piece given j
+Inv-loop old state pieces new list₀ n piece₀ rest₀ j₀ list piece rest j = Cutting (corridorOf old state) pieces new n list piece rest j
 
 abbrev μ-loop : tie.MeasureT-loop
-μ-loop old state pieces new list₀ n piece₀ given₀ j₀ list piece given j = n - j
+μ-loop old state pieces new list₀ n piece₀ rest₀ j₀ list piece rest j = n - j
 
 long : (s : tie.Start Inv-loop μ-loop) → length (s .args .list .now) ≡ stateLength (cells (s .args .new .now))
 long s =
@@ -29,10 +29,10 @@ loop-holds c =
     let old = corridorOf (a .old .now) (a .state .now) in
     begins old (a .pieces .now) (a .new .now) _ (cut-fits old (a .pieces .now) (a .new .now) (a .list .now) (start .pre)) (c .cells .ensures) (long start)
 
-piece-cell-requires : tie.Need-piece-cell-requires Inv-loop μ-loop
-piece-cell-requires c κs =
+fill-requires : tie.Need-fill-requires Inv-loop μ-loop
+fill-requires c κs =
     let at = c .before .before .loop .inv in
-    (work at (search needs) (c .row-at .ensures), at .given-is)
+    (work at (search needs) (c .row-at .ensures), at .rest-is)
 
 put-cell-requires : tie.Need-put-cell-requires Inv-loop μ-loop
 put-cell-requires c κs =
@@ -44,19 +44,12 @@ next-piece-requires c κs =
     let row = c .before .before .before .before .before in
     next-asked (row .before .before .loop .inv) (search needs) (row .row-at .ensures)
 
-add-first-or-later : tie.Need-add-first-or-later Inv-loop μ-loop
-add-first-or-later c =
-    let cell = c .before .before .before .before .before .before in
-    let row = cell .before in
-    omega (arith, given-fits (row .before .before .loop .inv) (search needs) (row .row-at .ensures) (cell .piece-cell .ensures))
-
 loop-again : tie.Need-loop-again Inv-loop μ-loop
 loop-again c =
-    let stored = c .before .before .before .before .before in
-    let cell = stored .before .before in
-    let row = cell .before in
-    goes-on (row .before .before .loop .inv) (search needs) (row .row-at .ensures) (cell .piece-cell .ensures)
-    (stored .put-cell .ensures) (c .before .before .next-piece .ensures) (c .first-or-later .ensures)
+    let stored = c .before .before .before in
+    let done = stored .before .before in
+    let row = done .before in
+    goes-on (row .before .before .loop .inv) (search needs) (row .row-at .ensures) (done .fill .ensures) (stored .put-cell .ensures) (c .next-piece .ensures)
 
 same-length : tie.Need-same-length Inv-loop μ-loop
 same-length c = let len = long (c .before .before .before .before .before .before .before .before .before .before .before .before .before) in search needs
@@ -75,11 +68,9 @@ cut-spec =
     (λ c κs. search needs)
     loop-holds
     (λ c κs. search needs)
-    piece-cell-requires
+    fill-requires
     put-cell-requires
     next-piece-requires
-    add-first-or-later
-    (λ c κs. search needs)
     (λ c. search needs)
     (λ c. search needs)
     loop-again

@@ -1,5 +1,51 @@
 -- `recut::fill` meets its contract. Assumes nothing.
+use mathlib.Core.Path.{_≡_}
+use native.Mathlib.Omega.{arith}
 use borrow.Author.Needs.{needs}
-use Rattle.recut.specs.Recut.{pieceCell}
+use Rattle.layout.specs.Corridor.{Corridor, corridorOf, rowOf, countOf}
+use Rattle.recut.specs.Recut.{byHand}
+use Rattle.recut.specs.Private.{restBefore}
+use Rattle.recut.proofs.Cutting.{shared-from, queue-from, share-is-held, fills}
 use Rattle.recut.proofs.fill.Statement.{statement}
 use Rattle.recut.proofs.fill.Tie as tie
+
+abbrev begin : tie.After-share-by-hand → tie.Start
+begin c = c .before .before .before .before .before
+
+abbrev corridor : tie.After-share-by-hand → Corridor
+corridor c = corridorOf (begin c .args .old .now) (begin c .args .state .now)
+
+-- what the share is worked out from
+told : (c : tie.After-share-by-hand) → let given = begin c .args in
+    let i = given .piece .cell in
+    c .share-by-hand .result ≡ byHand (countOf (corridor c) i) (rowOf (corridor c) i .jam) (given .jam) (restBefore (corridor c) (given .piece))
+told c =
+    let given = begin c .args in
+    shared-from (corridor c) (given .piece) (given .jam) (c .share-by-hand .ensures) (c .before .count-at .ensures) (c .before .before .row-at .ensures) (begin c .pre .1)
+
+cast-t11 : tie.Need-cast-t11
+cast-t11 c =
+    let shared = c .before .before .before .before in
+    let start = begin shared in
+    omega (arith, share-is-held (corridor shared) (start .args .piece) (start .args .jam) (start .pre .0) (told shared))
+
+returns : tie.Need-returns
+returns c =
+    let queued = c .before in
+    let shared = queued .before .before .before in
+    let start = begin shared in
+    let queue = queue-from (corridor shared) (start .args .piece) (queued .piece-queue .ensures) (queued .before .queue-at .ensures) (queued .before .before .cells .ensures) in
+    fills (corridor shared) (start .args .piece) (start .args .jam) (start .pre .0) (told shared) queue
+
+pub fill-spec : {M : Type 1} → statement M
+fill-spec =
+    tie.close
+    (tie.spec
+    (λ c κs. search needs)
+    (λ c κs. search needs)
+    (λ c κs. search needs)
+    (λ c κs. search needs)
+    (λ c κs. search needs)
+    (λ c κs. search needs)
+    cast-t11
+    returns)
