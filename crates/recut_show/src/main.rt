@@ -4,6 +4,7 @@ use layout::cells;
 use layout::ramp_at;
 use layout::ramp_positions;
 use layout::row_at;
+use recut::Share;
 use refusals::Answer;
 
 // One cell with on-ramp 11 and off-ramp 12, in the columns v, w, F, J, on, x, c, off, b.
@@ -71,8 +72,20 @@ fn show_ramps(table: &[u32]) {
     io::write_all(1, b"\n");
 }
 
-// Prints how a cell that holds n is shared out by hand among the cells that it is cut into: n times each one's J with the remainder that the one
-// before left, divided by the cell's J.
+// Prints the steps of one share by hand: n times the piece's J, the remainder that it got, its vehicles and the remainder that it leaves.
+fn show_share(n: u32, jam: u32, rest: u32, share: Share) {
+    io::write_all(1, b"n*j ");
+    io::print_decimal(1, n as u64 * jam as u64);
+    io::write_all(1, b" and remainder ");
+    io::print_decimal(1, rest as u64);
+    io::write_all(1, b": share ");
+    io::print_decimal(1, share.vehicles);
+    io::write_all(1, b", leaves ");
+    io::print_decimal(1, share.rest as u64);
+    io::write_all(1, b"\n");
+}
+
+// Shares a cell that holds n out by hand among the cells that it is cut into, each from the remainder that the one before it left.
 fn show_shares(n: u32, whole: u32, new: &[u32]) {
     let pieces = cells(new);
     let mut rest: u32 = 0;
@@ -80,15 +93,7 @@ fn show_shares(n: u32, whole: u32, new: &[u32]) {
     while j < pieces {
         let jam = row_at(new, j).jam;
         let share = recut::share_by_hand(n, whole, jam, rest);
-        io::write_all(1, b"n*j ");
-        io::print_decimal(1, n as u64 * jam as u64);
-        io::write_all(1, b" and remainder ");
-        io::print_decimal(1, rest as u64);
-        io::write_all(1, b": share ");
-        io::print_decimal(1, share.vehicles);
-        io::write_all(1, b", leaves ");
-        io::print_decimal(1, share.rest as u64);
-        io::write_all(1, b"\n");
+        show_share(n, jam, rest, share);
         rest = share.rest;
         j += 1;
     }
