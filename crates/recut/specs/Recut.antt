@@ -24,9 +24,11 @@ abbrev pub pieceVehicles : ℕ → ℕ → ℕ → ℕ → ℕ
 pieceVehicles n J before jam = n * (before + jam) / J - n * before / J
 
 -- the same by hand, with the remainder that the piece before left: n·j and it, divided by J, give the vehicles and leave the next remainder
-unfoldable pub byHand : ℕ → ℕ → ℕ → ℕ → Share
-byHand n J jam rest =
-    pick (eqb J 0) (record { vehicles = 0; rest = 0 }) (record { vehicles = (n * jam + rest) / J; rest = (n * jam + rest) % J })
+unfoldable pub divided : ℕ → ℕ → Share
+divided all J = pick (eqb J 0) (record { vehicles = 0; rest = 0 }) (record { vehicles = all / J; rest = all % J })
+
+abbrev pub byHand : ℕ → ℕ → ℕ → ℕ → Share
+byHand n J jam rest = divided (n * jam + rest) J
 
 -- what a piece of that jam count becomes: its vehicles, and the on-ramp queue, which goes to the first piece
 unfoldable pub pieceCell : Corridor → Piece → ℕ → Cell

@@ -5,7 +5,7 @@ ghost use Rattle.whole.specs.Search.{pick};
 ghost use Rattle.layout.specs.Corridor.{corridorOf};
 ghost use Rattle.refusals.specs.Checks.{answer};
 ghost use Rattle.recut.specs.Private.{restBefore, filled, Cuttable, Countable};
-ghost use Rattle.recut.specs.Recut.{byHand, newState, recutListsFit, piecesNumbers, recutChecks, RecutDone};
+ghost use Rattle.recut.specs.Recut.{divided, byHand, newState, recutListsFit, piecesNumbers, recutChecks, RecutDone};
 
 mod pieces;
 
@@ -33,10 +33,9 @@ struct Filled {
     rest: u32,
 }
 
-// The share of a piece of the given jam count, of a cell that holds n and has jam count whole, with the remainder that the piece before
-// it left. A cell of no jam count has nothing to share.
-pub fn share_by_hand(n: u32, whole: u32, jam: u32, rest: u32) -> Share
-    ensures { λ r. ⌜ r ≡ byHand n whole jam rest ⌝ }
+// What there is to share, divided by a cell's jam count. A cell of no jam count has nothing to share.
+fn divide(all: u64, whole: u32) -> Share
+    ensures { λ r. ⌜ r ≡ divided all whole ⌝ }
 {
     if whole == 0 {
         return Share {
@@ -44,10 +43,32 @@ pub fn share_by_hand(n: u32, whole: u32, jam: u32, rest: u32) -> Share
             rest: 0,
         };
     }
-    let all = n as u64 * jam as u64 + rest as u64;
     Share {
         vehicles: all / (whole as u64),
         rest: (all % (whole as u64)) as u32,
+    }
+}
+
+// The share of a piece of the given jam count, of a cell that holds n and has jam count whole, with the remainder that the piece before
+// it left. That is below the cell's jam count, and is added after the division: no piece then waits for the one before it to be divided.
+pub fn share_by_hand(n: u32, whole: u32, jam: u32, rest: u32) -> Share
+    ensures { λ r. ⌜ r ≡ byHand n whole jam rest ⌝ }
+{
+    let product = n as u64 * jam as u64;
+    if whole <= rest {
+        return divide(product + rest as u64, whole);
+    }
+    let own = divide(product, whole);
+    let over = own.rest as u64 + rest as u64;
+    if over < whole as u64 {
+        return Share {
+            vehicles: own.vehicles,
+            rest: over as u32,
+        };
+    }
+    Share {
+        vehicles: own.vehicles + 1,
+        rest: (over - whole as u64) as u32,
     }
 }
 
