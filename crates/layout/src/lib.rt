@@ -60,7 +60,7 @@ pub fn state_length(n: usize) -> usize
     requires { ⌜ Listed n ⌝ }
     ensures { λ r. ⌜ r ≡ stateLength n ⌝ }
 {
-    2 * n + 1
+    1 + n + n
 }
 
 pub fn demand_length(n: usize) -> usize
