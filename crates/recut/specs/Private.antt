@@ -2,9 +2,8 @@
 -- What the functions of a re-cut ask of each other.
 use Prim.Native.Nat.{ℕ, _+_, _*_, _%_, _≤_, _<_}
 use mathlib.Core.Path.{_≡_}
-use mathlib.Core.List.{List}
 use lib.ListN.{length}
-use Rattle.layout.specs.Layout.{MOST, cells, stateLength}
+use Rattle.layout.specs.Layout.{stateLength}
 use Rattle.layout.specs.Corridor.{Corridor, cellsOf, rowOf, countOf}
 use Rattle.recut.specs.declared.Piece.{Piece}
 use Rattle.recut.specs.declared.Filled.{Filled}
@@ -28,9 +27,3 @@ pub record Cuttable (old : Corridor) (piece : Piece) (jam : ℕ) : Type 0 where
   pub some : 0 < rowOf old (piece .cell) .jam
   pub held : countOf old (piece .cell) ≤ rowOf old (piece .cell) .jam
   pub within : piece .before + jam ≤ rowOf old (piece .cell) .jam
-
--- a count for each old cell, and no more cells than a table may have
-pub record Countable (old pieces new : List ℕ) : Type 0 where
-  pub counted : length pieces ≡ cells old
-  pub old-most : cells old ≤ MOST
-  pub new-most : cells new ≤ MOST

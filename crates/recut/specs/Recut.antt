@@ -1,23 +1,20 @@
 -- Rules, "Re-cut": the new state, and what is refused.
 use Prim.Native.Nat.{ℕ, _+_, _-_, _*_, _/_, _%_}
 use mathlib.Core.Path.{_≡_}
-use mathlib.Core.Bool.{Bool, _&&_}
 use mathlib.Core.List.{List, [], _∷_, _++_}
 use lib.Dec.{eqb}
-use lib.ListN.{length}
-use Rattle.whole.specs.Sums.{sum}
 use Rattle.whole.specs.Search.{pick}
 use Rattle.refusals.specs.declared.Answer.{Answer}
 use Rattle.refusals.specs.declared.Refusal.the-variants.{Pieces}
-use Rattle.refusals.specs.Checks.{Check, answer, whenAccepted, lengths}
+use Rattle.refusals.specs.Checks.{Check, answer, whenAccepted}
 use Rattle.layout.specs.declared.Cell.{Cell}
-use Rattle.layout.specs.Layout.{cells, rowAt, stateLength, stateOf}
+use Rattle.layout.specs.Layout.{cells, rowAt, stateOf}
 use Rattle.layout.specs.Corridor.{Corridor, corridorOf, cellsOf, rowOf, entryQueueOf, countOf, queueOf}
-use Rattle.accept_tables.specs.Tables.{tableLengthFits, bothTables}
-use Rattle.accept_rows.specs.Acceptance.{stateInRange}
+use Rattle.recut_checks.specs.Pieces.{piecesNumber}
+use Rattle.recut_checks.specs.Change.{changeChecks}
 use Rattle.recut.specs.declared.Piece.{Piece}
 use Rattle.recut.specs.declared.Share.{Share}
-use Rattle.recut.specs.Pieces.{pieceCount, cellIsCut, pieceAt}
+use Rattle.recut.specs.Pieces.{pieceAt}
 
 -- the vehicles of a piece: n·C/J − n·C'/J, each rounded down, with C' the sum of J before it and C the sum with it
 abbrev pub pieceVehicles : ℕ → ℕ → ℕ → ℕ → ℕ
@@ -49,26 +46,10 @@ module _ (old : Corridor) (pieces new : List ℕ) where
   abbrev pub newCorridor : Corridor
   newCorridor = corridorOf new newState
 
--- 1: every list has its length
-abbrev pub recutListsFit : Corridor → List ℕ → List ℕ → List ℕ → Bool
-recutListsFit old pieces new list =
-    eqb (length (old .state)) (stateLength (cellsOf old)) && eqb (length pieces) (cellsOf old) && eqb (length list) (stateLength (cells new))
-
--- 8: the counts sum to the new N (place 0), and each old cell is cut by the rules
-abbrev pub countsSum : List ℕ → List ℕ → List ℕ → Check
-countsSum old pieces new =
-    record { places = 1; test = λ _. eqb (sum (cells old) (pieceCount pieces)) (cells new); refusal = λ _. Pieces 0 }
-
-abbrev pub cellsAreCut : List ℕ → List ℕ → List ℕ → Check
-cellsAreCut old pieces new = record { places = cells old; test = cellIsCut old pieces new; refusal = λ i. Pieces (i + 1) }
-
-abbrev pub piecesNumbers : List ℕ → List ℕ → List ℕ → List Check
-piecesNumbers old pieces new = countsSum old pieces new ∷ cellsAreCut old pieces new ∷ []
-
--- of one number, the old table's come before the new one's
+-- 1 to 5, with a piece count for each old cell; then 8, where the new cells are not the pieces of the old ones
 abbrev pub recutChecks : Corridor → List ℕ → List ℕ → List ℕ → List Check
 recutChecks old pieces new list =
-    lengths (tableLengthFits (old .table) && tableLengthFits new && recutListsFit old pieces new list) ∷ bothTables (old .table) new ++ (stateInRange old ∷ piecesNumbers (old .table) pieces new)
+    changeChecks old pieces (cellsOf old) new list ++ (piecesNumber Pieces (old .table) pieces new ∷ [])
 
 -- what a re-cut answers and leaves
 pub record RecutDone (old : Corridor) (pieces new list : List ℕ) (a : Answer) (left : List ℕ) : Type 0 where

@@ -1,16 +1,17 @@
 // The re-cut: each old cell becomes consecutive new cells, and its vehicles, its queue and its ramps go on under the new table.
+ghost use Prim.Native.Nat.{_≤_, _<_};
 ghost use mathlib.Core.Path.{_≡_};
 ghost use lib.Dec.{eqb};
+ghost use lib.ListN.{length};
 ghost use Rattle.whole.specs.Search.{pick};
+ghost use Rattle.layout.specs.Layout.{MOST};
 ghost use Rattle.layout.specs.Corridor.{corridorOf};
 ghost use Rattle.refusals.specs.Checks.{answer};
-ghost use Rattle.recut.specs.Private.{restBefore, filled, Cuttable, Countable};
-ghost use Rattle.recut.specs.Recut.{divided, byHand, newState, recutListsFit, piecesNumbers, recutChecks, RecutDone};
-
-mod pieces;
+ghost use Rattle.recut.specs.Private.{restBefore, filled, Cuttable};
+ghost use Rattle.recut.specs.Pieces.{nextPiece};
+ghost use Rattle.recut.specs.Recut.{divided, byHand, newState, recutChecks, RecutDone};
 
 use layout::*;
-use pieces::*;
 use refusals::Answer;
 use refusals::Refusal;
 
@@ -99,6 +100,27 @@ fn fill(old: &[u32], state: &[u32], piece: Piece, jam: u32, rest: u32) -> Filled
     }
 }
 
+// The piece after one of the given jam count.
+fn next_piece(pieces: &[u32], piece: Piece, jam: u32) -> Piece
+    requires { ⌜ (piece .cell < length (now pieces)) × (piece .number < MOST) × (piece .before ≤ 4_000_000) ⌝ }
+    ensures { λ r. ⌜ r ≡ nextPiece (now (pieces .entry)) piece jam ⌝ }
+{
+    let cell = piece.cell;
+    if piece.number + 1 < pieces[cell] as usize {
+        Piece {
+            cell: cell,
+            number: piece.number + 1,
+            before: piece.before + jam as u64,
+        }
+    } else {
+        Piece {
+            cell: cell + 1,
+            number: 0,
+            before: 0,
+        }
+    }
+}
+
 // The vehicles and queues of the old cells, shared out among their pieces.
 fn cut(old: &[u32], state: &[u32], pieces: &[u32], new: &[u32], list: &mut [u32])
     requires { ⌜ answer (recutChecks (corridorOf (now old) (now state)) (now pieces) (now new) (now list)) ≡ Answer.Accepted ⌝ }
@@ -123,47 +145,20 @@ fn cut(old: &[u32], state: &[u32], pieces: &[u32], new: &[u32], list: &mut [u32]
     put_entry(list, entry_queue(state));
 }
 
-// Number 8.
-fn pieces_numbers(old: &[u32], pieces: &[u32], new: &[u32]) -> Answer
-    requires { ⌜ Countable (now old) (now pieces) (now new) ⌝ }
-    ensures { λ r. ⌜ r ≡ answer (piecesNumbers (now (old .entry)) (now (pieces .entry)) (now (new .entry))) ⌝ }
-{
-    if total(pieces) != cells(new) {
-        return Answer::Refused(Refusal::Pieces(0));
-    }
-    let cell = cells_are_cut(old, pieces, new);
-    if cell < cells(old) {
-        return Answer::Refused(Refusal::Pieces(cell + 1));
-    }
-    Answer::Accepted
-}
-
-// Number 1 of a re-cut's lists under its two tables.
-fn recut_lists_fit(old: &[u32], state: &[u32], pieces: &[u32], new: &[u32], list: &[u32]) -> bool
-    ensures { λ r. ⌜ r ≡ recutListsFit (corridorOf (now (old .entry)) (now (state .entry))) (now (pieces .entry)) (now (new .entry)) (now (list .entry)) ⌝ }
-{
-    let n = cells(old);
-    (state.len() == state_length(n))
-        & (pieces.len() == n)
-        & (list.len() == state_length(cells(new)))
-}
-
 // Whether a re-cut is accepted: numbers 1 to 5 and 8.
 fn accept_recut(old: &[u32], state: &[u32], pieces: &[u32], new: &[u32], list: &[u32]) -> Answer
     ensures { λ r. ⌜ r ≡ answer (recutChecks (corridorOf (now (old .entry)) (now (state .entry))) (now (pieces .entry)) (now (new .entry)) (now (list .entry))) ⌝ }
 {
-    if !recut_lists_fit(old, state, pieces, new, list) {
-        return Answer::Refused(Refusal::Length);
-    }
-    let tables = accept_tables::accept_both(old, new);
-    if let Answer::Refused(refusal) = tables {
+    let n = cells(old);
+    let change = recut_checks::accept_change(old, state, pieces, n, new, list);
+    if let Answer::Refused(refusal) = change {
         return Answer::Refused(refusal);
     }
-    let numbers = accept_rows::accept_state_alone(old, state);
-    if let Answer::Refused(refusal) = numbers {
-        return Answer::Refused(refusal);
+    let at = recut_checks::misfit(old, pieces, new);
+    if at <= n {
+        return Answer::Refused(Refusal::Pieces(at));
     }
-    pieces_numbers(old, pieces, new)
+    Answer::Accepted
 }
 
 // The re-cut of a table and a state into a new table, with one piece count for each old cell. The new state goes to the list; on a refusal

@@ -1,7 +1,7 @@
 -- Rules, "Refusal numbers": the number and the place of each refusal.
 use Prim.Native.Nat.{ℕ}
 use Rattle.refusals.specs.declared.Refusal.{Refusal}
-use Rattle.refusals.specs.declared.Refusal.the-variants.{Length, TableNumber, RoomShares, RampAgain, StateNumber, Demand, QueueOver, Pieces, Sample, Fit, RowValue, Record}
+use Rattle.refusals.specs.declared.Refusal.the-variants.{Length, TableNumber, RoomShares, RampAgain, StateNumber, Demand, QueueOver, Pieces, Sample, Fit, RowValue, Record, Groups}
 
 abbrev pub numberOf : Refusal → ℕ
 numberOf Length = 1
@@ -16,6 +16,7 @@ numberOf (Sample sample) = 9
 numberOf Fit = 10
 numberOf (RowValue value) = 11
 numberOf (Record place) = 12
+numberOf (Groups cell) = 14
 
 -- places count from 1; 0 is the entry, a setting, or a refusal that has no place of its own
 abbrev pub placeOf : Refusal → ℕ
@@ -31,3 +32,4 @@ placeOf (Sample sample) = sample
 placeOf Fit = 0
 placeOf (RowValue value) = value
 placeOf (Record place) = place
+placeOf (Groups cell) = cell

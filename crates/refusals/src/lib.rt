@@ -16,6 +16,7 @@ pub enum Refusal {
     Fit,
     RowValue(usize),
     Record(usize),
+    Groups(usize),
 }
 
 pub enum Answer {
@@ -40,6 +41,7 @@ pub fn number(refusal: Refusal) -> u32
         Refusal::Fit => 10,
         Refusal::RowValue(_) => 11,
         Refusal::Record(_) => 12,
+        Refusal::Groups(_) => 14,
     }
 }
 
@@ -60,5 +62,6 @@ pub fn place(refusal: Refusal) -> usize
         Refusal::Fit => 0,
         Refusal::RowValue(value) => value,
         Refusal::Record(record) => record,
+        Refusal::Groups(cell) => cell,
     }
 }

@@ -1,0 +1,43 @@
+-- Rules, "Join": the new state, and what is refused. The old cells of a group are the pieces of a new cell, and a group size their count.
+use Prim.Native.Nat.{ℕ, _+_}
+use mathlib.Core.Path.{_≡_}
+use mathlib.Core.List.{List, [], _∷_, _++_}
+use Rattle.whole.specs.Sums.{sum}
+use Rattle.refusals.specs.declared.Answer.{Answer}
+use Rattle.refusals.specs.declared.Refusal.the-variants.{Groups}
+use Rattle.refusals.specs.Checks.{Check, answer, whenAccepted}
+use Rattle.layout.specs.declared.Cell.{Cell}
+use Rattle.layout.specs.Layout.{cells, stateOf}
+use Rattle.layout.specs.Corridor.{Corridor, corridorOf, entryQueueOf, countOf, queueOf}
+use Rattle.recut_checks.specs.Pieces.{pieceCount, firstPiece, piecesNumber}
+use Rattle.recut_checks.specs.Change.{changeChecks}
+
+-- the vehicles of count old cells from the one of index first
+abbrev pub groupVehicles : Corridor → ℕ → ℕ → ℕ
+groupVehicles old first count = sum count (λ k. countOf old (first + k))
+
+module _ (old : Corridor) (groups : List ℕ) where
+  -- the vehicles of its group, and the on-ramp queue of the first
+  abbrev pub joinedCell : ℕ → Cell
+  joinedCell j =
+      record {
+        count = groupVehicles old (firstPiece groups j) (pieceCount groups j);
+        queue = queueOf old (firstPiece groups j);
+      }
+
+  -- Q is kept
+  abbrev pub joinedState : List ℕ → List ℕ
+  joinedState new = stateOf (cells new) (entryQueueOf old) joinedCell
+
+  abbrev pub joinedCorridor : List ℕ → Corridor
+  joinedCorridor new = corridorOf new (joinedState new)
+
+-- 1 to 5, with a group size for each new cell; then 14, where the old cells are not the pieces of the new ones
+abbrev pub joinChecks : Corridor → List ℕ → List ℕ → List ℕ → List Check
+joinChecks old groups new list =
+    changeChecks old groups (cells new) new list ++ (piecesNumber Groups new groups (old .table) ∷ [])
+
+-- what a join answers and leaves
+pub record JoinDone (old : Corridor) (groups new list : List ℕ) (a : Answer) (left : List ℕ) : Type 0 where
+  pub answered : a ≡ answer (joinChecks old groups new list)
+  pub leaves : left ≡ whenAccepted (answer (joinChecks old groups new list)) (joinedState old groups new) list
