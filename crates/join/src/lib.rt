@@ -4,7 +4,6 @@ ghost use Rattle.layout.specs.Corridor.{corridorOf};
 ghost use Rattle.refusals.specs.Checks.{answer};
 ghost use Rattle.join.specs.Private.{Joinable};
 ghost use Rattle.join.specs.Join.{groupVehicles, joinedState, joinChecks, JoinDone};
-
 use layout::*;
 use refusals::Answer;
 use refusals::Refusal;

@@ -10,7 +10,6 @@ ghost use Rattle.refusals.specs.Checks.{answer};
 ghost use Rattle.recut.specs.Private.{restBefore, filled, Cuttable};
 ghost use Rattle.recut.specs.Pieces.{nextPiece};
 ghost use Rattle.recut.specs.Recut.{divided, byHand, newState, recutChecks, RecutDone};
-
 use layout::*;
 use refusals::Answer;
 use refusals::Refusal;

@@ -1,12 +1,13 @@
 -- What is known of cells that are the pieces of others. Assumes nothing.
-use Prim.Native.Nat.{ℕ, _+_, _-_, _<_}
-use mathlib.Core.Path.{_≡_}
-use mathlib.Core.Bool.{true, not, _&&_}
+use Prim.Native.Nat.{ℕ, suc, _+_, _-_, _<_}
+use mathlib.Core.Path.{_≡_, sym, ap, _∙_}
+use mathlib.Core.Bool.{Bool, true, false, not, _&&_}
 use mathlib.Core.List.{List}
 use native.Mathlib.Numerals.{add-one}
 use native.Mathlib.Omega.{arith}
-use borrow.Author.Tests.{eqb-true, eqb-false, not-true}
+use borrow.Author.Tests.{eqb-true, eqb-false, not-true, not-false}
 use lib.Dec.{eqb}
+use Rattle.whole.specs.Search.{firstFailing}
 use Rattle.whole.proofs.Search.{Passes, passes-every}
 use Rattle.whole.proofs.Tests.{both-hold}
 use Rattle.layout.specs.Layout.{cells, rowAt}
@@ -60,5 +61,13 @@ pub pieced : (whole pieces parts : List ℕ) → Passes (cells whole + 1) (piece
 pieced whole pieces parts all =
     record {
       sums = eqb-true (firstPiece pieces (cells whole)) (cells parts) (all 0 (omega arith));
-      each = λ i h. cell-pieces whole pieces parts i (all (i + 1) (omega arith));
+      each = λ i h. cell-pieces whole pieces parts i (all (suc i) (omega arith));
     }
+
+-- the least place: 0 where the counts do not sum, else that of the least cell, counted from 1
+module _ (whole pieces parts : List ℕ) {sums : Bool} (is : sums ≡ eqb (firstPiece pieces (cells whole)) (cells parts)) where
+  pub counts-fail : not sums ≡ true → 0 ≡ firstFailing (cells whole + 1) (piecesHold whole pieces parts)
+  counts-fail fail = rw (add-one (cells whole), sym is ∙ not-true _ fail)
+
+  pub cell-found : {i : ℕ} → not sums ≡ false → i ≡ firstFailing (cells whole) (cellHasPieces whole pieces parts) → i + 1 ≡ firstFailing (cells whole + 1) (piecesHold whole pieces parts)
+  cell-found {i} hold found = rw (add-one (cells whole), add-one i, sym is ∙ not-false _ hold) (ap suc found)

@@ -16,7 +16,14 @@ use refusals::Answer;
 use refusals::Refusal;
 
 // Number 1 of the lists under the two tables.
-fn change_lists_fit(old: &[u32], state: &[u32], counts: &[u32], many: usize, new: &[u32], list: &[u32]) -> bool
+fn change_lists_fit(
+    old: &[u32],
+    state: &[u32],
+    counts: &[u32],
+    many: usize,
+    new: &[u32],
+    list: &[u32],
+) -> bool
     ensures { λ r. ⌜ r ≡ changeListsFit (corridorOf (now (old .entry)) (now (state .entry))) (now (counts .entry)) many (now (new .entry)) (now (list .entry)) ⌝ }
 {
     (state.len() == state_length(cells(old)))
@@ -26,7 +33,14 @@ fn change_lists_fit(old: &[u32], state: &[u32], counts: &[u32], many: usize, new
 
 // Whether a change from an old table and state to a new table is accepted, but for what its counts say: numbers 1 to 5. There are to be so
 // many counts.
-pub fn accept_change(old: &[u32], state: &[u32], counts: &[u32], many: usize, new: &[u32], list: &[u32]) -> Answer
+pub fn accept_change(
+    old: &[u32],
+    state: &[u32],
+    counts: &[u32],
+    many: usize,
+    new: &[u32],
+    list: &[u32],
+) -> Answer
     ensures { λ r. ⌜ r ≡ answer (changeChecks (corridorOf (now (old .entry)) (now (state .entry))) (now (counts .entry)) many (now (new .entry)) (now (list .entry))) ⌝ }
 {
     if !change_lists_fit(old, state, counts, many, new, list) {

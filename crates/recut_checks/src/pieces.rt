@@ -11,7 +11,11 @@ use layout::*;
 fn piece_count(pieces: &[u32], i: usize) -> usize
     ensures { λ r. ⌜ r ≡ pieceCount (now (pieces .entry)) i ⌝ }
 {
-    if i < pieces.len() { pieces[i] as usize } else { 0 }
+    if i < pieces.len() {
+        pieces[i] as usize
+    } else {
+        0
+    }
 }
 
 // Whether the counts of n cells sum to that many pieces.

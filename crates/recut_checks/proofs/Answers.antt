@@ -1,0 +1,38 @@
+-- How the answer of a change goes from part to part. Assumes nothing.
+use Prim.Native.Nat.{ℕ}
+use mathlib.Core.Path.{_≡_, sym, ap₂, _∙_}
+use mathlib.Core.Bool.{true, false, _&&_}
+use mathlib.Core.List.{List, [], _∷_, _++_}
+use native.Mathlib.Omega.{arith}
+use borrow.Author.Tests.{eq-eqb}
+use Rattle.whole.proofs.Tests.{both-hold}
+use Rattle.refusals.specs.declared.Refusal.{Refusal}
+use Rattle.refusals.specs.declared.Refusal.the-variants.{Length}
+use Rattle.refusals.specs.declared.Answer.{Answer}
+use Rattle.refusals.specs.declared.Answer.the-variants.{Accepted, Refused}
+use Rattle.refusals.specs.Checks.{answer}
+use Rattle.refusals.proofs.Answers.{length-fails, length-fits-too, lengths-passed, refused-stays, accepted-goes-on, accepted-passes}
+use Rattle.layout.specs.Corridor.{Corridor}
+use Rattle.accept_tables.specs.Tables.{tableLengthFits, bothTables, bothTablesChecks}
+use Rattle.accept_rows.specs.Acceptance.{stateInRange, stateAloneChecks}
+use Rattle.recut_checks.specs.Change.{changeListsFit, changeChecks}
+use Rattle.recut_checks.proofs.Change.{ListsFit}
+
+pub lists-refused : (old : Corridor) (counts : List ℕ) (many : ℕ) (new list : List ℕ) → changeListsFit old counts many new list ≡ false → Refused Length ≡ answer (changeChecks old counts many new list)
+lists-refused old counts many new list e =
+    length-fails (bothTables (old .table) new ++ (stateInRange old ∷ [])) (tableLengthFits (old .table) && tableLengthFits new) e
+
+module _ {old : Corridor} {counts : List ℕ} {many : ℕ} {new list : List ℕ} (lists : ListsFit old counts many new list) where
+  checks-are : answer (bothTablesChecks (old .table) new ++ (stateInRange old ∷ [])) ≡ answer (changeChecks old counts many new list)
+  checks-are =
+      sym (length-fits-too (bothTables (old .table) new ++ (stateInRange old ∷ [])) (tableLengthFits (old .table) && tableLengthFits new) (lists .fit))
+
+  pub tables-refused : {refusal : Refusal} → Refused refusal ≡ answer (bothTablesChecks (old .table) new) → Refused refusal ≡ answer (changeChecks old counts many new list)
+  tables-refused e = refused-stays (bothTablesChecks (old .table) new) (stateInRange old ∷ []) e ∙ checks-are
+
+  -- where the tables are accepted, the state decides
+  pub state-decides : {a : Answer} → Accepted ≡ answer (bothTablesChecks (old .table) new) → a ≡ answer (stateAloneChecks old) → a ≡ answer (changeChecks old counts many new list)
+  state-decides tables e =
+      let table = both-hold (tableLengthFits (old .table)) (tableLengthFits new) (accepted-passes _ _ (sym tables) .0 0 (omega arith)) .0 in
+      let alone = lengths-passed (stateInRange old ∷ []) (ap₂ (λ a b. a && b) table (eq-eqb _ _ (lists .state-length))) in
+      accepted-goes-on (bothTablesChecks (old .table) new) (stateInRange old ∷ []) tables (e ∙ alone) ∙ checks-are
