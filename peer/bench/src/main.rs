@@ -20,7 +20,7 @@ const USAGE: &str = "usage: bench [--rounds R] [--peer PATH] [--program PATH] [-
   --library        only the library's functions
   --programs       only the programs
   --repeat         does a job so often on one side (rust, proved, c, indexed), for another program to count; a job is run,CELLS,PERIODS
-                   or periods,CELLS,PERIODS, with `example` or a number for CELLS, or recut, or calibration";
+                   or periods,CELLS,PERIODS, with `example` or a number for CELLS, or recut, join or calibration";
 
 pub struct Options {
     rounds: Option<usize>,

@@ -3,7 +3,7 @@
 use std::hint::black_box;
 use std::time::Duration;
 
-use cases::{demand_rows, even_recut, samples, table, Calibrate, Case, Corridor, Kind, Recut, Rng};
+use cases::{demand_rows, even_join, even_recut, samples, table, Calibrate, Case, Corridor, Kind, Rng, TwoTables};
 use model::{read_whole, sheet_length, state_length, Face, Model, RunAnswer, Settings, COLUMNS, MOST_SAMPLES};
 
 use crate::programs::EXAMPLE;
@@ -11,6 +11,9 @@ use crate::timing::{best, print_table, ratio, time, Work};
 
 /// A run as the model and the yardsticks have it.
 type Run = fn(&[u32], &mut [u32], &[u32], &mut [u32]) -> RunAnswer;
+
+/// A re-cut or a join through a face.
+type Change = fn(&dyn Face, &[u32], &[u32], &[u32], &[u32], &mut [u32]) -> u64;
 
 /// The times of the model, the proved library, the run in C and the run by indexes.
 type Times = Vec<Option<Duration>>;
@@ -33,12 +36,14 @@ pub enum Job {
     Periods(usize, usize),
     /// A re-cut of 128 cells into 512.
     Recut,
+    /// A join of 512 cells into 128.
+    Join,
     /// A calibration from the most samples.
     Calibration,
 }
 
 impl Job {
-    /// The job of a name as `run,512,4096`, `run,example,4096`, `periods,512,4096`, `recut` or `calibration`.
+    /// The job of a name as `run,512,4096`, `run,example,4096`, `periods,512,4096`, `recut`, `join` or `calibration`.
     pub fn named(name: &str) -> Option<Job> {
         let number = |text: &str| text.parse().ok().filter(|number| *number > 0);
         Some(match name.split(',').collect::<Vec<_>>()[..] {
@@ -47,6 +52,7 @@ impl Job {
             ["periods", "example", periods] => Job::ExamplePeriods(number(periods)?),
             ["periods", cells, periods] => Job::Periods(number(cells)?, number(periods)?),
             ["recut"] => Job::Recut,
+            ["join"] => Job::Join,
             ["calibration"] => Job::Calibration,
             _ => return None,
         })
@@ -60,7 +66,12 @@ impl Job {
             Job::Run(cells, periods) => run_works(&corridor(rng, cells, periods)),
             Job::ExamplePeriods(periods) => period_works(&example(periods)),
             Job::Periods(cells, periods) => period_works(&corridor(rng, cells, periods)),
-            Job::Recut => recut_works(&even_recut(rng, 128, 4)),
+            Job::Recut => change_works(&even_recut(rng, 128, 4), Case::Recut, |face, old, state, sizes, new, list| {
+                face.recut(old, state, sizes, new, list)
+            }),
+            Job::Join => change_works(&even_join(rng, 512, 4), Case::Join, |face, old, state, sizes, new, list| {
+                face.join(old, state, sizes, new, list)
+            }),
             Job::Calibration => calibration_works(&calibration(rng)),
         }
     }
@@ -101,6 +112,7 @@ pub fn measure(rounds: usize) {
     add("4,096 calls of period, 41 cells", Job::ExamplePeriods(4_096));
     add("4,096 calls of period, 512 cells", Job::Periods(512, 4_096));
     add("re-cut, 128 cells into 512", Job::Recut);
+    add("join, 512 cells into 128", Job::Join);
     add("calibration, 65,536 samples", Job::Calibration);
     let heads = ["one call", "Rust", "proved", "C", "by indexes", "proved / Rust", "proved / C", "proved / by indexes"];
     print_table("Best of the rounds, the sides in turn", &heads, &rows);
@@ -207,15 +219,16 @@ fn period_works(case: &Corridor) -> Works {
     [rust, proved, None, None]
 }
 
-fn recut_works(case: &Recut) -> Works {
-    same(Case::Recut(case.clone()));
+fn change_works(case: &TwoTables, function: fn(TwoTables) -> Case, change: Change) -> Works {
+    same(function(case.clone()));
     let [rust, proved] = through(|face| {
-        let Recut { old_table, old_state, pieces, new_table, mut new_state } = case.clone();
+        let TwoTables { old_table, old_state, sizes, new_table, mut new_state } = case.clone();
         Box::new(move || {
-            black_box(face.recut(
+            black_box(change(
+                face,
                 black_box(&old_table),
                 black_box(&old_state),
-                black_box(&pieces),
+                black_box(&sizes),
                 black_box(&new_table),
                 &mut new_state,
             ));

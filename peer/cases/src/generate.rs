@@ -6,7 +6,8 @@ use model::{
     sheet_length, state_length, Settings, COLUMNS, MOST_CELLS, MOST_FLOW, MOST_JAM, MOST_QUEUE, MOST_RAMP, ONE,
 };
 
-use crate::{Calibrate, Case, Corridor, Recut, Rng, Texts};
+use crate::pieces::{any_join, any_recut};
+use crate::{Calibrate, Case, Corridor, Rng, Texts};
 
 /// How a table's numbers are chosen.
 #[derive(Clone, Copy, Debug, PartialEq, Eq)]
@@ -22,13 +23,14 @@ pub enum Kind {
 /// The case of a library function with this index.
 pub fn generate(seed: u64, index: u64) -> Case {
     let rng = &mut Rng::of_case(seed, index);
-    match rng.below(20) {
+    match rng.below(24) {
         0 | 1 => Case::Table(any_corridor(rng, 0)),
         2 | 3 => Case::State(any_corridor(rng, 1)),
         4..=6 => Case::Row(any_corridor(rng, 2)),
         7..=9 => Case::Period(any_corridor(rng, 3)),
         10..=12 => Case::Run(any_run(rng)),
         13..=15 => Case::Recut(any_recut(rng)),
+        16..=19 => Case::Join(any_join(rng)),
         _ => Case::Calibrate(any_calibration(rng)),
     }
 }
@@ -39,7 +41,7 @@ pub fn generate_program(seed: u64, index: u64) -> Case {
 }
 
 /// A number of cells, mostly few.
-fn any_cells(rng: &mut Rng) -> usize {
+pub(crate) fn any_cells(rng: &mut Rng) -> usize {
     match rng.below(200) {
         0..=29 => 1,
         30..=149 => 2 + rng.below(5),
@@ -50,7 +52,7 @@ fn any_cells(rng: &mut Rng) -> usize {
     }
 }
 
-fn any_kind(rng: &mut Rng) -> Kind {
+pub(crate) fn any_kind(rng: &mut Rng) -> Kind {
     rng.pick(&[Kind::Road, Kind::Road, Kind::Edge, Kind::Edge, Kind::Small])
 }
 
@@ -70,7 +72,7 @@ impl Ramps {
 }
 
 /// v, w, F and J of a row.
-fn any_speeds(rng: &mut Rng, kind: Kind) -> [u32; 4] {
+pub(crate) fn any_speeds(rng: &mut Rng, kind: Kind) -> [u32; 4] {
     match kind {
         Kind::Road => {
             [rng.within(10_000, ONE), rng.within(2_000, 24_000), rng.within(2_000, 40_000), rng.within(8_000, 400_000)]
@@ -105,7 +107,7 @@ fn any_row(rng: &mut Rng, kind: Kind, ramps: &mut Ramps) -> [u32; COLUMNS] {
 }
 
 /// An x that w leaves room for, often all of it.
-fn any_share(rng: &mut Rng, w: u32) -> u32 {
+pub(crate) fn any_share(rng: &mut Rng, w: u32) -> u32 {
     rng.edge(1, MOST_RAMP.min(ONE - w))
 }
 
@@ -115,7 +117,7 @@ pub fn table(rng: &mut Rng, kind: Kind, cells: usize) -> Vec<u32> {
     (0..cells).flat_map(|_| any_row(rng, kind, &mut ramps)).collect()
 }
 
-fn rows(table: &[u32]) -> impl Iterator<Item = &[u32; COLUMNS]> {
+pub(crate) fn rows(table: &[u32]) -> impl Iterator<Item = &[u32; COLUMNS]> {
     table.as_chunks().0.iter()
 }
 
@@ -129,7 +131,7 @@ fn any_queue(rng: &mut Rng) -> u32 {
 }
 
 /// An accepted state.
-fn any_state(rng: &mut Rng, table: &[u32]) -> Vec<u32> {
+pub(crate) fn any_state(rng: &mut Rng, table: &[u32]) -> Vec<u32> {
     let fullness = rng.below(5);
     let mut state = vec![any_queue(rng)];
     for row in rows(table) {
@@ -185,12 +187,12 @@ pub fn demand_rows(rng: &mut Rng, table: &[u32], periods: usize) -> Vec<u32> {
 }
 
 /// Some numbers that the function is to leave alone or write over.
-fn any_contents(rng: &mut Rng, length: usize) -> Vec<u32> {
+pub(crate) fn any_contents(rng: &mut Rng, length: usize) -> Vec<u32> {
     (0..length).map(|_| rng.word() as u32).collect()
 }
 
 /// Makes a list a little too short or too long.
-fn damage_length<T: Copy + Default>(rng: &mut Rng, list: &mut Vec<T>) {
+pub(crate) fn damage_length<T: Copy + Default>(rng: &mut Rng, list: &mut Vec<T>) {
     match rng.below(4) {
         0 => {
             list.pop();
@@ -205,7 +207,7 @@ fn damage_length<T: Copy + Default>(rng: &mut Rng, list: &mut Vec<T>) {
 }
 
 /// Puts one number of a table out of its range, gives its cell too large shares, or uses a ramp number again.
-fn damage_table(rng: &mut Rng, table: &mut [u32]) {
+pub(crate) fn damage_table(rng: &mut Rng, table: &mut [u32]) {
     const MOST: [u32; COLUMNS] = [ONE, ONE, MOST_FLOW, MOST_JAM, MOST_RAMP, MOST_RAMP, MOST_FLOW, MOST_RAMP, MOST_RAMP];
     let cells = table.len() / COLUMNS;
     if cells == 0 {
@@ -263,7 +265,7 @@ fn damage_table(rng: &mut Rng, table: &mut [u32]) {
     }
 }
 
-fn damage_state(rng: &mut Rng, table: &[u32], state: &mut [u32]) {
+pub(crate) fn damage_state(rng: &mut Rng, table: &[u32], state: &mut [u32]) {
     let cells = table.len() / COLUMNS;
     if cells == 0 || state.len() != state_length(cells) {
         return;
@@ -353,143 +355,6 @@ fn any_run(rng: &mut Rng) -> Corridor {
         }
     }
     Corridor { table, state, demand, sheet }
-}
-
-/// A re-cut with the new table made from the old one, then damaged more often than not.
-fn any_recut(rng: &mut Rng) -> Recut {
-    let kind = any_kind(rng);
-    let cells = if rng.once_in(60) { 128 } else { any_cells(rng).min(64) };
-    let mut old_table = table(rng, kind, cells);
-    let old_state = any_state(rng, &old_table);
-    let most = (MOST_CELLS / cells).min(if rng.once_in(10) { MOST_CELLS } else { 6 });
-    let mut pieces = Vec::new();
-    let mut new_table = Vec::new();
-    for row in rows(&old_table) {
-        let count = (1 + rng.below(most) as u32).min(row[3]);
-        pieces.push(count);
-        new_table.extend(cut_row(rng, kind, row, count).into_iter().flatten());
-    }
-    let mut old_state = old_state;
-    let mut new_state = any_contents(rng, state_length(new_table.len() / COLUMNS));
-
-    for _ in 0..rng.pick(&[0, 0, 0, 1, 1, 1, 1, 1, 2]) {
-        let new_cells = new_table.len() / COLUMNS;
-        let cell = rng.below(pieces.len().max(1));
-        let at = rng.below(new_cells.max(1)) * COLUMNS;
-        if pieces.is_empty() || new_cells == 0 {
-            break;
-        }
-        let next = (at / COLUMNS + 1) % new_cells * COLUMNS;
-        match rng.below(16) {
-            0 => match rng.below(5) {
-                0 => damage_length(rng, &mut old_table),
-                1 => damage_length(rng, &mut old_state),
-                2 => damage_length(rng, &mut pieces),
-                3 => damage_length(rng, &mut new_table),
-                _ => damage_length(rng, &mut new_state),
-            },
-            1 => damage_table(rng, &mut old_table),
-            2 => damage_table(rng, &mut new_table),
-            3 => damage_state(rng, &old_table, &mut old_state),
-            4 => pieces[cell] = rng.pick(&[0, pieces[cell].wrapping_add(1), u32::MAX]),
-            5 => {
-                // a sum that is right only when it wraps
-                let other = (cell + 1) % pieces.len();
-                let more = rng.pick(&[1, 2, 1 << 16]);
-                pieces[cell] = pieces[cell].wrapping_sub(more);
-                pieces[other] = pieces[other].wrapping_add(more);
-            }
-            6 | 7 => {
-                // a piece moves to the cell before or after, perhaps the last one
-                let other = if cell + 1 < pieces.len() { cell + 1 } else { 0 };
-                let moved = rng.pick(&[1, pieces[cell]]).min(pieces[cell]);
-                pieces[cell] -= moved;
-                pieces[other] = pieces[other].saturating_add(moved);
-            }
-            8 | 9 => {
-                // the jam counts sum to one more or less, or move between pieces
-                let jam = &mut new_table[at + 3];
-                *jam = if rng.once_in(2) { jam.saturating_add(1) } else { jam.saturating_sub(1) };
-                if rng.once_in(2) {
-                    let jam = &mut new_table[next + 3];
-                    *jam = if rng.once_in(2) { jam.saturating_add(1) } else { jam.saturating_sub(1) };
-                }
-            }
-            10 | 11 => {
-                // another ramp number or limit or split, within the ranges
-                let column = rng.pick(&[4, 6, 7, 8]);
-                if new_table[at + if column < 7 { 4 } else { 7 }] != 0 {
-                    new_table[at + column] = rng.edge(1, MOST_RAMP);
-                }
-            }
-            12 | 13 => {
-                // a ramp where there is none, or none where there is one
-                if rng.once_in(2) {
-                    new_table[at + 7] = if new_table[at + 7] == 0 { rng.within(1, MOST_RAMP) } else { 0 };
-                    new_table[at + 8] = 0;
-                } else if new_table[at + 4] == 0 && new_table[at + 1] < ONE {
-                    let number = rng.within(1, MOST_RAMP);
-                    new_table[at + 4..at + 7].copy_from_slice(&[number, 1, 1]);
-                } else {
-                    new_table[at + 4..at + 7].fill(0);
-                }
-            }
-            14 => {
-                // the ramps of a cell on the wrong pieces
-                for column in if rng.once_in(2) { 4..7 } else { 7..9 } {
-                    new_table.swap(at + column, next + column);
-                }
-            }
-            _ => {
-                // a row more or less
-                let row: Vec<u32> = new_table[at..at + COLUMNS].to_vec();
-                if rng.once_in(2) && new_cells > 1 {
-                    new_table.truncate(new_table.len() - COLUMNS);
-                } else if new_cells < MOST_CELLS {
-                    new_table.extend(row.iter().enumerate().map(|(i, &n)| if i < 4 { n } else { 0 }));
-                }
-                new_state = any_contents(rng, state_length(new_table.len() / COLUMNS));
-            }
-        }
-    }
-    Recut { old_table, old_state, pieces, new_table, new_state }
-}
-
-/// An accepted re-cut in which each of `cells` cells of a road becomes `pieces` pieces.
-pub fn even_recut(rng: &mut Rng, cells: usize, pieces: u32) -> Recut {
-    let old_table = table(rng, Kind::Road, cells);
-    let old_state = any_state(rng, &old_table);
-    let new_table: Vec<u32> =
-        rows(&old_table).flat_map(|row| cut_row(rng, Kind::Road, row, pieces)).flatten().collect();
-    let new_state = vec![0; state_length(new_table.len() / COLUMNS)];
-    Recut { old_table, old_state, pieces: vec![pieces; cells], new_table, new_state }
-}
-
-/// The rows that a cell is cut into, as the rules ask; `count` is at most its jam count.
-fn cut_row(rng: &mut Rng, kind: Kind, row: &[u32; COLUMNS], count: u32) -> Vec<[u32; COLUMNS]> {
-    let mut jams = vec![1; count as usize];
-    let mut left = row[3] - count;
-    for jam in &mut jams[1..] {
-        let more = rng.edge(0, left.min(2 * row[3] / count));
-        *jam += more;
-        left -= more;
-    }
-    jams[0] += left;
-    let last = jams.len() - 1;
-    let mut rows = Vec::new();
-    for (i, jam) in jams.into_iter().enumerate() {
-        let [v, mut w, capacity, _] = any_speeds(rng, kind);
-        let (mut on, mut off) = ([0; 3], [0; 2]);
-        if i == 0 && row[4] != 0 {
-            w = w.min(ONE - 1);
-            on = [row[4], any_share(rng, w), row[6]];
-        }
-        if i == last {
-            off = [row[7], row[8]];
-        }
-        rows.push([v, w, capacity, jam, on[0], on[1], on[2], off[0], off[1]]);
-    }
-    rows
 }
 
 /// Samples of a road with this free speed, critical density, wave speed and lanes: the free ones first.

@@ -3,6 +3,7 @@
 #![forbid(unsafe_code)]
 
 mod generate;
+mod pieces;
 mod rng;
 mod shrink;
 
@@ -10,7 +11,8 @@ use std::fmt;
 
 use model::{Face, Settings};
 
-pub use generate::{demand_rows, even_recut, generate, generate_program, samples, table, Kind};
+pub use generate::{demand_rows, generate, generate_program, samples, table, Kind};
+pub use pieces::{even_join, even_recut};
 pub use rng::Rng;
 pub use shrink::shrink;
 
@@ -22,7 +24,8 @@ pub enum Case {
     Row(Corridor),
     Period(Corridor),
     Run(Corridor),
-    Recut(Recut),
+    Recut(TwoTables),
+    Join(TwoTables),
     Calibrate(Calibrate),
     Program(Texts),
 }
@@ -36,13 +39,21 @@ pub struct Corridor {
     pub sheet: Vec<u32>,
 }
 
+/// The lists of a re-cut and of a join. The sizes are the piece counts of the old cells, or the group sizes of the new ones.
 #[derive(Clone, Debug, PartialEq)]
-pub struct Recut {
+pub struct TwoTables {
     pub old_table: Vec<u32>,
     pub old_state: Vec<u32>,
-    pub pieces: Vec<u32>,
+    pub sizes: Vec<u32>,
     pub new_table: Vec<u32>,
     pub new_state: Vec<u32>,
+}
+
+/// Which of the two tables holds the pieces: the new one in a re-cut, the old one in a join.
+#[derive(Clone, Copy)]
+enum Pieces {
+    New,
+    Old,
 }
 
 #[derive(Clone, Debug, PartialEq)]
@@ -122,11 +133,8 @@ impl Case {
                 let word = face.run(table, &mut state, demand, &mut sheet);
                 lists(word, &[&state, &sheet])
             }
-            Case::Recut(Recut { old_table, old_state, pieces, new_table, new_state }) => {
-                let mut new_state = new_state.clone();
-                let word = face.recut(old_table, old_state, pieces, new_table, &mut new_state);
-                lists(word, &[&new_state])
-            }
+            Case::Recut(case) => case.outcome(|old, state, sizes, new, list| face.recut(old, state, sizes, new, list)),
+            Case::Join(case) => case.outcome(|old, state, sizes, new, list| face.join(old, state, sizes, new, list)),
             Case::Calibrate(Calibrate { flow, occupancy, settings, diagram, row }) => {
                 let (mut diagram, mut row) = (diagram.clone(), row.clone());
                 let word = face.calibrate(flow, occupancy, settings, &mut diagram, &mut row);
@@ -140,6 +148,48 @@ impl Case {
     /// What the model does.
     pub fn model_outcome(&self) -> Outcome {
         self.outcome(&model::Model)
+    }
+}
+
+impl TwoTables {
+    /// How many lists there are.
+    const LISTS: usize = 5;
+
+    fn list(&mut self, at: usize) -> &mut Vec<u32> {
+        match at {
+            0 => &mut self.old_table,
+            1 => &mut self.old_state,
+            2 => &mut self.sizes,
+            3 => &mut self.new_table,
+            _ => &mut self.new_state,
+        }
+    }
+
+    /// The join of the new cells of a re-cut, in this state, back into the old ones.
+    pub fn joined_again(&self, state: &[u32]) -> TwoTables {
+        TwoTables {
+            old_table: self.new_table.clone(),
+            old_state: state.to_vec(),
+            sizes: self.sizes.clone(),
+            new_table: self.old_table.clone(),
+            new_state: vec![0; self.old_state.len()],
+        }
+    }
+
+    fn outcome(&self, function: impl Fn(&[u32], &[u32], &[u32], &[u32], &mut [u32]) -> u64) -> Outcome {
+        let TwoTables { old_table, old_state, sizes, new_table, new_state } = self;
+        let mut new_state = new_state.clone();
+        let word = function(old_table, old_state, sizes, new_table, &mut new_state);
+        Outcome::Lists { word, lists: vec![new_state], doubles: Vec::new() }
+    }
+
+    fn write(&self, out: &mut fmt::Formatter<'_>, name: &str, sizes: &str) -> fmt::Result {
+        writeln!(out, "{name}")?;
+        write_list(out, "old_table", &self.old_table)?;
+        write_list(out, "old_state", &self.old_state)?;
+        write_list(out, sizes, &self.sizes)?;
+        write_list(out, "new_table", &self.new_table)?;
+        write_list(out, "new_state", &self.new_state)
     }
 }
 
@@ -164,14 +214,8 @@ impl fmt::Display for Case {
             Case::Row(case) => corridor(out, "accept_row", 3, case),
             Case::Period(case) => corridor(out, "period", 4, case),
             Case::Run(case) => corridor(out, "run", 4, case),
-            Case::Recut(case) => {
-                writeln!(out, "recut")?;
-                write_list(out, "old_table", &case.old_table)?;
-                write_list(out, "old_state", &case.old_state)?;
-                write_list(out, "pieces", &case.pieces)?;
-                write_list(out, "new_table", &case.new_table)?;
-                write_list(out, "new_state", &case.new_state)
-            }
+            Case::Recut(case) => case.write(out, "recut", "pieces"),
+            Case::Join(case) => case.write(out, "join", "groups"),
             Case::Calibrate(case) => {
                 writeln!(out, "calibrate")?;
                 write_list(out, "flow", &case.flow)?;

@@ -2,7 +2,7 @@
 
 use model::{read_whole, state_length, write_record, Settings, COLUMNS};
 
-use crate::{Calibrate, Case, Corridor, Recut, Texts};
+use crate::{Calibrate, Case, Corridor, Pieces, Texts, TwoTables};
 
 /// Goes from a case that `differs` to smaller ones that do, as long as one is found and `tries` last.
 pub fn shrink(case: Case, mut differs: impl FnMut(&Case) -> bool, mut tries: usize) -> Case {
@@ -41,7 +41,8 @@ fn smaller(case: &Case) -> Smaller {
         Case::Row(case) => corridor(case, Case::Row),
         Case::Period(case) => corridor(case, Case::Period),
         Case::Run(case) => corridor(case, Case::Run),
-        Case::Recut(case) => Box::new(smaller_recut(case.clone()).map(Case::Recut)),
+        Case::Recut(case) => Box::new(smaller_tables(case.clone(), Pieces::New).map(Case::Recut)),
+        Case::Join(case) => Box::new(smaller_tables(case.clone(), Pieces::Old).map(Case::Join)),
         Case::Calibrate(case) => Box::new(smaller_calibration(case.clone()).map(Case::Calibrate)),
         Case::Program(case) => Box::new(smaller_texts(case.clone()).map(Case::Program)),
     }
@@ -122,42 +123,46 @@ fn corridor_list(case: &mut Corridor, list: usize) -> &mut Vec<u32> {
     }
 }
 
-fn smaller_recut(case: Recut) -> impl Iterator<Item = Recut> {
-    let old_cells = case.old_table.len() / COLUMNS;
-    let new_cells = case.new_table.len() / COLUMNS;
-    // Old cells with the pieces that their counts give them.
+fn smaller_tables(case: TwoTables, pieces: Pieces) -> impl Iterator<Item = TwoTables> {
+    let (cells, all_pieces) = match pieces {
+        Pieces::New => (case.old_table.len() / COLUMNS, case.new_table.len() / COLUMNS),
+        Pieces::Old => (case.new_table.len() / COLUMNS, case.old_table.len() / COLUMNS),
+    };
+    // Cells with the pieces that their sizes give them.
     let whole = case.clone();
-    let counted = whole.pieces.len() == old_cells;
-    let fewer_old = ranges(old_cells).filter(move |range| counted && range.len() < old_cells).map(move |range| {
+    let counted = whole.sizes.len() == cells;
+    let fewer_cells = ranges(cells).filter(move |range| counted && range.len() < cells).map(move |range| {
         let start = |cell: usize| {
-            let sum: u64 = whole.pieces[..cell].iter().map(|&count| u64::from(count)).sum();
-            sum.min(new_cells as u64) as usize
+            let sum: u64 = whole.sizes[..cell].iter().map(|&size| u64::from(size)).sum();
+            sum.min(all_pieces as u64) as usize
         };
-        let new = start(range.start)..start(range.end);
-        Recut {
-            old_table: without_rows(&whole.old_table, &range),
-            old_state: without_cells(&whole.old_state, old_cells, 2, &range),
-            pieces: [&whole.pieces[..range.start], &whole.pieces[range.end..]].concat(),
-            new_table: without_rows(&whole.new_table, &new),
-            new_state: without_cells(&whole.new_state, new_cells, 2, &new),
-        }
+        let mine = start(range.start)..start(range.end);
+        without_pieces(&whole, pieces, &range, &mine)
     });
     let whole = case.clone();
-    let fewer_new = ranges(new_cells).filter(move |range| range.len() < new_cells).map(move |range| Recut {
-        new_table: without_rows(&whole.new_table, &range),
-        new_state: without_cells(&whole.new_state, new_cells, 2, &range),
-        ..whole.clone()
-    });
-    fewer_old.chain(fewer_new).chain(smaller_numbers(case, 5, recut_list))
+    let fewer_pieces = ranges(all_pieces)
+        .filter(move |range| range.len() < all_pieces)
+        .map(move |range| without_pieces(&whole, pieces, &(0..0), &range));
+    fewer_cells.chain(fewer_pieces).chain(smaller_numbers(case, TwoTables::LISTS, TwoTables::list))
 }
 
-fn recut_list(case: &mut Recut, list: usize) -> &mut Vec<u32> {
-    match list {
-        0 => &mut case.old_table,
-        1 => &mut case.old_state,
-        2 => &mut case.pieces,
-        3 => &mut case.new_table,
-        _ => &mut case.new_state,
+/// The case without the cells of a range and their sizes, and without the pieces of another range.
+fn without_pieces(
+    case: &TwoTables,
+    pieces: Pieces,
+    cells: &std::ops::Range<usize>,
+    mine: &std::ops::Range<usize>,
+) -> TwoTables {
+    let (old, new) = match pieces {
+        Pieces::New => (cells, mine),
+        Pieces::Old => (mine, cells),
+    };
+    TwoTables {
+        old_table: without_rows(&case.old_table, old),
+        old_state: without_cells(&case.old_state, case.old_table.len() / COLUMNS, 2, old),
+        sizes: [&case.sizes[..cells.start], &case.sizes[cells.end..]].concat(),
+        new_table: without_rows(&case.new_table, new),
+        new_state: without_cells(&case.new_state, case.new_table.len() / COLUMNS, 2, new),
     }
 }
 

@@ -10,15 +10,15 @@ mod program;
 use std::process::ExitCode;
 use std::time::{Duration, Instant};
 
-use cases::{generate, generate_program, shrink, Case, Corridor, Outcome};
+use cases::{generate, generate_program, shrink, Case, Corridor, Outcome, TwoTables};
 use model::{Face, Refusal};
 use options::Options;
 use program::Program;
 
-const NAMES: [&str; 8] =
-    ["accept_table", "accept_state", "accept_row", "period", "run", "recut", "calibrate", "simulate"];
-/// The refusal numbers and 0 for accepted.
-const NUMBERS: usize = 13;
+const NAMES: [&str; 9] =
+    ["accept_table", "accept_state", "accept_row", "period", "run", "recut", "join", "calibrate", "simulate"];
+/// The refusal numbers.
+const NUMBERS: [usize; 13] = [1, 2, 3, 4, 5, 6, 7, 8, 9, 10, 11, 12, 14];
 const TIME_TO_SHRINK: Duration = Duration::from_secs(30);
 
 fn main() -> ExitCode {
@@ -117,8 +117,8 @@ fn yardstick_outcome(case: &Case) -> Option<Outcome> {
     Some(Outcome::Lists { word, lists: vec![state, sheet], doubles: Vec::new() })
 }
 
-/// No vehicle comes from nowhere or goes there, in an accepted period and in an accepted re-cut; and what is left behind is
-/// an accepted state.
+/// No vehicle comes from nowhere or goes there, in an accepted period, re-cut or join; what is left behind is an accepted
+/// state; and a re-cut is undone by a join.
 fn check_balance(case: &Case, outcome: &Outcome) -> Result<(), String> {
     let Outcome::Lists { word: 0, lists, .. } = outcome else {
         return Ok(());
@@ -131,14 +131,26 @@ fn check_balance(case: &Case, outcome: &Outcome) -> Result<(), String> {
             let gone = u64::from(sheet[cells]) + sum(&sheet[1 + cells..1 + 2 * cells]);
             (sum(state) + sum(&demand[..=cells]), sum(after) + gone, table, after)
         }
-        Case::Recut(case) => (sum(&case.old_state), sum(&lists[0]), &case.new_table, &lists[0]),
+        Case::Recut(case) | Case::Join(case) => (sum(&case.old_state), sum(&lists[0]), &case.new_table, &lists[0]),
         _ => return Ok(()),
     };
     if before != after {
         return Err(format!("{before} thousandths before, {after} after"));
     }
     let left = Refusal::from_word(model::Model.accept_state(table, state));
-    left.map_err(|refusal| format!("the state left behind is {refusal}"))
+    left.map_err(|refusal| format!("the state left behind is {refusal}"))?;
+    match case {
+        Case::Recut(case) => check_undone(case, state),
+        _ => Ok(()),
+    }
+}
+
+/// The join of what a re-cut left gives back the state before it.
+fn check_undone(recut: &TwoTables, left: &[u32]) -> Result<(), String> {
+    match Case::Join(recut.joined_again(left)).model_outcome() {
+        Outcome::Lists { word: 0, lists, .. } if lists[0] == recut.old_state => Ok(()),
+        other => Err(format!("joined again it is not what it was\n{other}")),
+    }
 }
 
 fn kind(case: &Case) -> usize {
@@ -149,21 +161,22 @@ fn kind(case: &Case) -> usize {
         Case::Period(_) => 3,
         Case::Run(_) => 4,
         Case::Recut(_) => 5,
-        Case::Calibrate(_) => 6,
-        Case::Program(_) => 7,
+        Case::Join(_) => 6,
+        Case::Calibrate(_) => 7,
+        Case::Program(_) => 8,
     }
 }
 
-/// How many cases of each function met each refusal number.
+/// How many cases of each function met each refusal number, and 0 for accepted.
 #[derive(Default)]
 struct Counts {
-    numbers: [[u64; NUMBERS]; 8],
+    numbers: [[u64; NUMBERS[NUMBERS.len() - 1] + 1]; NAMES.len()],
     /// Runs, and runs of the program, that were refused after at least one period.
     part_way: [u64; 2],
     /// Refusals 11 by place.
     row_values: [u64; 5],
-    /// Refusals 8 at place 0.
-    wrong_sums: u64,
+    /// Refusals 8, and refusals 14, at place 0.
+    wrong_sums: [u64; 2],
 }
 
 impl Counts {
@@ -176,7 +189,8 @@ impl Counts {
                 let lines = text.iter().filter(|&&byte| byte == b'\n').count();
                 self.part_way[1] += u64::from(lines > 2);
             }
-            (Case::Recut(_), _) if number == 8 => self.wrong_sums += u64::from(outcome.place() == 0),
+            (Case::Recut(_), _) if number == 8 => self.wrong_sums[0] += u64::from(outcome.place() == 0),
+            (Case::Join(_), _) if number == 14 => self.wrong_sums[1] += u64::from(outcome.place() == 0),
             (Case::Calibrate(_), _) if number == 11 => self.row_values[outcome.place() as usize] += 1,
             _ => {}
         }
@@ -185,18 +199,19 @@ impl Counts {
     fn print(&self) {
         print!("{:13}", "");
         print!("{:>9}", "accepted");
-        (1..NUMBERS).for_each(|number| print!("{number:>7}"));
+        NUMBERS.iter().for_each(|number| print!("{number:>7}"));
         println!();
         for (name, numbers) in NAMES.iter().zip(&self.numbers) {
             print!("{name:13}{:>9}", numbers[0]);
-            numbers[1..].iter().for_each(|count| print!("{count:>7}"));
+            NUMBERS.iter().for_each(|&number| print!("{:>7}", numbers[number]));
             println!();
         }
         println!(
-            "refused part way: {} runs, {} programs; 8 at place 0: {}; 11 at v, w, F, J: {:?}",
+            "refused part way: {} runs, {} programs; 8 and 14 at place 0: {}, {}; 11 at v, w, F, J: {:?}",
             self.part_way[0],
             self.part_way[1],
-            self.wrong_sums,
+            self.wrong_sums[0],
+            self.wrong_sums[1],
             &self.row_values[1..]
         );
     }
@@ -211,6 +226,7 @@ impl Counts {
                 "accept_state" => &[0, 1, 2, 3, 4, 5],
                 "accept_row" | "period" | "run" => &[0, 1, 2, 3, 4, 5, 6, 7],
                 "recut" => &[0, 1, 2, 3, 4, 5, 8],
+                "join" => &[0, 1, 2, 3, 4, 5, 14],
                 "calibrate" => &[0, 1, 9, 10, 11],
                 _ => &[0, 1, 2, 3, 4, 5, 6, 7, 12],
             };
@@ -220,7 +236,7 @@ impl Counts {
             }
         }
         if all {
-            let none = (1..NUMBERS).filter(|&number| self.numbers.iter().all(|counts| counts[number] == 0));
+            let none = NUMBERS.into_iter().filter(|&number| self.numbers.iter().all(|counts| counts[number] == 0));
             missed.extend(none.map(|number| number.to_string()));
         }
         if missed.is_empty() {

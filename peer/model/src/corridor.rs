@@ -188,7 +188,7 @@ fn row_refusal(rows: Rows, state: &[u32], demand: &[u32]) -> Refusal {
 
 /// A state or demand row as its first number and its two columns.
 #[inline]
-fn parts(cells: usize, list: &[u32]) -> (u32, &[u32], &[u32]) {
+pub(crate) fn parts(cells: usize, list: &[u32]) -> (u32, &[u32], &[u32]) {
     (list[0], &list[1..=cells], &list[cells + 1..=2 * cells])
 }
 

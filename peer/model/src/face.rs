@@ -1,6 +1,6 @@
 //! The functions as the C interface has them: slices and numbers in, one word out.
 
-use crate::{accept_row, accept_state, accept_table, calibrate, period, recut, run, Refusal, Settings};
+use crate::{accept_row, accept_state, accept_table, calibrate, join, period, recut, run, Refusal, Settings};
 
 /// An implementation of the model behind the C interface. Each function answers count·2^40 + number·2^32 + place,
 /// with number 0 for accepted; the count is of the periods that a run completed, else 0. Further results go to lent lists,
@@ -22,6 +22,15 @@ pub trait Face {
         old_table: &[u32],
         old_state: &[u32],
         pieces: &[u32],
+        new_table: &[u32],
+        new_state: &mut [u32],
+    ) -> u64;
+
+    fn join(
+        &self,
+        old_table: &[u32],
+        old_state: &[u32],
+        groups: &[u32],
         new_table: &[u32],
         new_state: &mut [u32],
     ) -> u64;
@@ -71,6 +80,17 @@ impl Face for Model {
         new_state: &mut [u32],
     ) -> u64 {
         Refusal::word(&recut(old_table, old_state, pieces, new_table, new_state))
+    }
+
+    fn join(
+        &self,
+        old_table: &[u32],
+        old_state: &[u32],
+        groups: &[u32],
+        new_table: &[u32],
+        new_state: &mut [u32],
+    ) -> u64 {
+        Refusal::word(&join(old_table, old_state, groups, new_table, new_state))
     }
 
     fn calibrate(

@@ -1,4 +1,5 @@
-//! The freeway cell model in plain Rust: acceptance, one period, a run, the re-cut, calibration and the run program.
+//! The freeway cell model in plain Rust: acceptance, one period, a run, the re-cut, the join, calibration and the
+//! run program.
 //!
 //! Written from the rules alone (docs/RULES.md), as an independent peer of the proved implementation. Vehicles are whole
 //! thousandths, shares are whole numbers over [`ONE`], and every list is a slice of `u32` (calibration: of `f64`).
@@ -7,7 +8,9 @@
 mod calibration;
 mod corridor;
 mod face;
+mod join;
 mod period;
+mod pieces;
 mod program;
 mod recut;
 mod refusal;
@@ -16,6 +19,7 @@ mod text;
 pub use calibration::{calibrate, fit, row_values, Cause, Diagram, RowValues, Sample, Settings};
 pub use corridor::{accept_row, accept_state, accept_table};
 pub use face::{Face, Model};
+pub use join::join;
 pub use period::{period, run, run_indexed, RunAnswer};
 pub use program::{simulate, simulate_with, File};
 pub use recut::recut;

@@ -33,9 +33,18 @@ const ENOUGH: usize = 1 << 16;
 
 /// Why the program ends before the demand does.
 enum Stop {
-    Refused { period: u64, place: u64, number: u32, file: u32 },
+    Refused {
+        period: u64,
+        place: u64,
+        number: u32,
+        file: u32,
+    },
     /// A file is missing or can't be read on.
-    Lost { period: u64, file: File, error: io::Error },
+    Lost {
+        period: u64,
+        file: File,
+        error: io::Error,
+    },
     /// The output can't be written.
     Failed(io::Error),
 }

@@ -1,6 +1,6 @@
 use std::fmt;
 
-/// A refusal: its number, 1 to 12, and the place it names.
+/// A refusal: its number, 1 to 12 or 14, and the place it names.
 #[derive(Clone, Copy, Debug, PartialEq, Eq, Hash)]
 pub struct Refusal {
     pub number: u32,

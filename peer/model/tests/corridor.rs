@@ -1,25 +1,9 @@
 //! Acceptance, the period, the run and the re-cut: the worked figures and the edges of each rule.
 
+mod common;
+
+use common::{order_of_tables, refused, row, table, three_pieces, CLOSED};
 use model::*;
-
-const CLOSED: [u32; 9] = [32_768, 16_384, 2_000, 10_000, 0, 0, 0, 0, 0];
-
-fn refused<T>(number: u32, place: u32) -> Answer<T> {
-    Err(Refusal { number, place })
-}
-
-fn table(rows: &[[u32; 9]]) -> Vec<u32> {
-    rows.concat()
-}
-
-/// The closed cell with some columns replaced.
-fn row(changes: &[(usize, u32)]) -> [u32; 9] {
-    let mut row = CLOSED;
-    for &(column, number) in changes {
-        row[column] = number;
-    }
-    row
-}
 
 #[test]
 fn printed_period() {
@@ -289,13 +273,6 @@ fn a_run_refused_when_its_queue_grows() {
     assert_eq!(state, [999_800_000, 1, 0]);
 }
 
-/// The old cell of the re-cut figures with both ramps, and its three pieces.
-fn three_pieces() -> ([u32; 9], [[u32; 9]; 3]) {
-    let old = [10, 20, 30, 10, 4, 50, 60, 5, 70];
-    let pieces = [[11, 21, 31, 3, 4, 51, 60, 0, 0], [1, 1, 1, 3, 0, 0, 0, 0, 0], [1, 1, 1, 4, 0, 0, 0, 5, 70]];
-    (old, pieces)
-}
-
 #[test]
 fn shared_out() {
     let (old, pieces) = three_pieces();
@@ -347,22 +324,5 @@ fn cut_rules() {
 
 #[test]
 fn cut_order() {
-    let bad = |column: usize, number: u32| {
-        let mut row = row(&[(4, 1), (5, 1), (6, 1), (7, 2)]);
-        row[column] = number;
-        row
-    };
-    let good = bad(0, 1);
-    let (range, share, ramp) = (bad(0, 0), bad(1, 65_536), bad(7, 1));
-    let go = |old: [[u32; 9]; 2], new: [[u32; 9]; 1]| {
-        recut(&table(&old), &[0, 99_999, 0, 0, 0], &[1, 1], &table(&new), &mut [0; 3])
-    };
-    let closed = CLOSED;
-    assert_eq!(go([closed, range], [range]), refused(2, 2));
-    assert_eq!(go([closed, share], [range]), refused(2, 1));
-    assert_eq!(go([closed, share], [share]), refused(3, 2));
-    assert_eq!(go([closed, ramp], [share]), refused(3, 1));
-    assert_eq!(go([closed, ramp], [ramp]), refused(4, 2));
-    assert_eq!(go([closed, good], [ramp]), refused(4, 1));
-    assert_eq!(go([closed, good], [good]), refused(5, 1));
+    order_of_tables(|old, state, new| recut(old, state, &[1, 1], new, &mut [0; 3]));
 }

@@ -42,7 +42,7 @@ fn drawn(kind: u64, draw: u64, most: f64) -> f64 {
         11 => 5e-324,
         _ => 1.0,
     };
-    if kind == 12 && (draw >> 20) % 8 == 0 {
+    if kind == 12 && (draw >> 20).is_multiple_of(8) {
         edge(draw)
     } else if kind < 4 {
         ((draw >> 24) % 17) as f64 / 16.0 * most

@@ -36,6 +36,10 @@ mod linked {
             old_table: *const u32, old_table_length: usize, old_state: *const u32, old_state_length: usize,
             pieces: *const u32, pieces_length: usize, new_table: *const u32, new_table_length: usize,
             new_state: *mut u32, new_state_length: usize) -> u64;
+        fn figwimple_join(
+            old_table: *const u32, old_table_length: usize, old_state: *const u32, old_state_length: usize,
+            groups: *const u32, groups_length: usize, new_table: *const u32, new_table_length: usize,
+            new_state: *mut u32, new_state_length: usize) -> u64;
         fn figwimple_calibrate(
             flow: *const f64, flow_length: usize, occupancy: *const f64, occupancy_length: usize,
             g: f64, lanes: u32, t: u32, l: f64, start: usize, end: usize,
@@ -87,6 +91,17 @@ mod linked {
                 figwimple_recut(
                     old_table.as_ptr(), old_table.len(), old_state.as_ptr(), old_state.len(),
                     pieces.as_ptr(), pieces.len(), new_table.as_ptr(), new_table.len(),
+                    new_state.as_mut_ptr(), new_state.len())
+            }
+        }
+
+        fn join(
+            &self, old_table: &[u32], old_state: &[u32], groups: &[u32], new_table: &[u32], new_state: &mut [u32],
+        ) -> u64 {
+            unsafe {
+                figwimple_join(
+                    old_table.as_ptr(), old_table.len(), old_state.as_ptr(), old_state.len(),
+                    groups.as_ptr(), groups.len(), new_table.as_ptr(), new_table.len(),
                     new_state.as_mut_ptr(), new_state.len())
             }
         }

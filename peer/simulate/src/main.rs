@@ -22,9 +22,5 @@ fn main() -> ExitCode {
 fn simulate() -> io::Result<()> {
     // The sheet is passed on in large pieces, so standard output's own buffer by lines is left aside.
     let out = File::from(io::stdout().as_fd().try_clone_to_owned()?);
-    model::simulate_with(
-        |file| File::open(file.name()),
-        |file, error| eprintln!("{}: {error}", file.name()),
-        out,
-    )
+    model::simulate_with(|file| File::open(file.name()), |file, error| eprintln!("{}: {error}", file.name()), out)
 }
