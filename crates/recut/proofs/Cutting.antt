@@ -15,10 +15,11 @@ use Rattle.layout.specs.Layout.{MOST, cells, rowAt, stateLength, queueAt, state
 use Rattle.layout.specs.Corridor.{Corridor, cellsOf, rowOf, entryQueueOf, countOf, queueOf}
 use Rattle.layout.proofs.Laid.{Laying, laying-none, laying-whole}
 use Rattle.layout.proofs.States.{cell-stored}
+use Rattle.recut_checks.specs.Pieces.{pieceCount}
 use Rattle.recut.specs.declared.Piece.{Piece}
 use Rattle.recut.specs.declared.Share.{Share}
 use Rattle.recut.specs.declared.Filled.{Filled}
-use Rattle.recut.specs.Pieces.{pieceCount, nextPiece, pieceAt}
+use Rattle.recut.specs.Pieces.{nextPiece, pieceAt}
 use Rattle.recut.specs.Recut.{pieceVehicles, byHand, pieceCell, newCell, newState}
 use Rattle.recut.specs.Private.{restBefore, restAfter, filled, Cuttable}
 use Rattle.recut.proofs.Shares.{share-at-most, share-by-remainder, none-left-before, last-leaves-none}

@@ -2,5 +2,4 @@ pub mod Walk
 pub mod Shares
 pub mod Facts
 pub mod Cutting
-pub mod Answers
 pub mod Settled

@@ -9,13 +9,10 @@ use native.Mathlib.Decide.{decLt}
 use borrow.Author.Tests.{lt-ltb, le-ltb}
 use Rattle.whole.proofs.Sums.{sum-grows}
 use Rattle.layout.specs.Layout.{rowAt}
+use Rattle.recut_checks.specs.Pieces.{pieceCount, firstPiece, jamBefore}
+use Rattle.recut_checks.proofs.Pieced.{jams-more}
 use Rattle.recut.specs.declared.Piece.{Piece}
-use Rattle.recut.specs.Pieces.{pieceCount, firstPiece, jamBefore, nextPiece, pieceAt}
-
--- the sum of J up to and with a piece is that of one piece more
-pub jams-more : (new : List ℕ) (first k j : ℕ) {before : ℕ} → j ≡ first + k → before ≡ jamBefore new first k → before + rowAt new j .jam ≡ jamBefore new first (k + 1)
-unfolding jamBefore
-jams-more new first k j at e = rw (add-one k, at, e)
+use Rattle.recut.specs.Pieces.{nextPiece, pieceAt}
 
 module _ (n : ℕ) (pieces new : List ℕ) where
   -- the walk stands before the new cell of index j, or at the road's end

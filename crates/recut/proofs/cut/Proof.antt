@@ -6,7 +6,7 @@ use borrow.Author.Needs.{needs}
 use lib.ListN.{length}
 use Rattle.layout.specs.Layout.{cells, stateLength}
 use Rattle.layout.specs.Corridor.{corridorOf}
-use Rattle.recut.proofs.Facts.{lengths-accepted, cut-fits}
+use Rattle.recut.proofs.Facts.{list-length, cut-fits}
 use Rattle.recut.proofs.Cutting.{Cutting, begins, work, next-asked, goes-on, ends}
 use Rattle.recut.proofs.cut.Statement.{statement}
 use Rattle.recut.proofs.cut.Tie as tie
@@ -20,7 +20,7 @@ abbrev μ-loop : tie.MeasureT-loop
 long : (s : tie.Start Inv-loop μ-loop) → length (s .args .list .now) ≡ stateLength (cells (s .args .new .now))
 long s =
     let a = s .args in
-    lengths-accepted (corridorOf (a .old .now) (a .state .now)) (a .pieces .now) (a .new .now) (a .list .now) (s .pre) .1 .list-length
+    list-length (corridorOf (a .old .now) (a .state .now)) (a .pieces .now) (a .new .now) (a .list .now) (s .pre)
 
 loop-holds : tie.Need-loop-holds Inv-loop μ-loop
 loop-holds c =

@@ -1,11 +1,11 @@
--- `recut::pieces::next_piece` meets its contract. Assumes nothing.
+-- `recut::next_piece` meets its contract. Assumes nothing.
 use Prim.Native.Nat.{_+_}
 use native.Mathlib.Omega.{arith}
 use borrow.Author.Tests.{lt-ltb, le-ltb}
 use borrow.Author.Needs.{needs}
-use Rattle.recut.specs.Pieces.{pieceCount}
-use Rattle.recut.proofs.pieces.next_piece.Statement.{statement}
-use Rattle.recut.proofs.pieces.next_piece.Tie as tie
+use Rattle.recut_checks.specs.Pieces.{pieceCount}
+use Rattle.recut.proofs.next_piece.Statement.{statement}
+use Rattle.recut.proofs.next_piece.Tie as tie
 
 cast-if1 : tie.Need-cast-if1
 cast-if1 c = omega (arith, c .shared-slice-known .given (c .before .before .args .piece .cell))
