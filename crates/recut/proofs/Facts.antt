@@ -19,7 +19,7 @@ use Rattle.recut.specs.declared.Piece.{Piece}
 use Rattle.recut.specs.Pieces.{pieceAt}
 use Rattle.recut.specs.Recut.{recutChecks}
 use Rattle.recut.specs.Private.{Cuttable}
-use Rattle.recut.proofs.Walk.{On, on-piece}
+use Rattle.recut.proofs.Walk.{On, piece-of}
 
 pub record CutFits (old : Corridor) (pieces new : List ℕ) : Type 0 where
   pub change : ChangeFits old new
@@ -47,7 +47,7 @@ module _ (old : Corridor) (pieces new : List ℕ) (known : CutFits old pieces ne
   piece = pieceAt pieces new j
 
   pub the-piece : On (cellsOf old) pieces new j (pieceAt pieces new j)
-  the-piece = on-piece (cellsOf old) (cells new) pieces new (λ i below. known .pieced .each i below .some) (known .pieced .sums) j h
+  the-piece = piece-of (known .pieced) j h
 
   -- the jam counts up to and with the piece are those of its cell's first pieces
   pub jams-with : piece .before + rowAt new j .jam ≡ jamBefore new (firstPiece pieces (piece .cell)) (piece .number + 1)

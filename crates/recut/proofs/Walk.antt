@@ -8,9 +8,9 @@ use native.Mathlib.Omega.{arith}
 use native.Mathlib.Decide.{decLt}
 use borrow.Author.Tests.{lt-ltb, le-ltb}
 use Rattle.whole.proofs.Sums.{sum-grows}
-use Rattle.layout.specs.Layout.{rowAt}
+use Rattle.layout.specs.Layout.{cells, rowAt}
 use Rattle.recut_checks.specs.Pieces.{pieceCount, firstPiece, jamBefore}
-use Rattle.recut_checks.proofs.Pieced.{jams-more}
+use Rattle.recut_checks.proofs.Pieced.{Pieced, jams-more}
 use Rattle.recut.specs.declared.Piece.{Piece}
 use Rattle.recut.specs.Pieces.{nextPiece, pieceAt}
 
@@ -82,6 +82,9 @@ module _ (n total : ℕ) (pieces new : List ℕ) (some : (i : ℕ) → i < n →
   walk zero h = record { reaches = zero-le; number-is = some 0; at = refl; before-is = refl }
   walk (suc j) h = step j (pieceAt pieces new j) (stands-on (walk j (omega arith)) h)
 
-  -- each new cell is a piece
-  pub on-piece : (j : ℕ) → j < total → On n pieces new j (pieceAt pieces new j)
+  on-piece : (j : ℕ) → j < total → On n pieces new j (pieceAt pieces new j)
   on-piece j h = stands-on (walk j (omega arith)) h
+
+-- each new cell is a piece of an old one
+pub piece-of : {whole pieces parts : List ℕ} → Pieced whole pieces parts → (j : ℕ) → j < cells parts → On (cells whole) pieces parts j (pieceAt pieces parts j)
+piece-of {whole} {pieces} {parts} known = on-piece (cells whole) (cells parts) pieces parts (λ i below. known .each i below .some) (known .sums)

@@ -12,68 +12,68 @@ use Rattle.whole.specs.Sums.{sum}
 use Rattle.whole.specs.Search.{pick}
 use Rattle.whole.proofs.Sums.{sum-grows}
 use Rattle.layout.specs.Layout.{cells, rowAt}
-use Rattle.layout.specs.Corridor.{Corridor, cellsOf}
+use Rattle.recut_checks.specs.Pieces.{pieceCount}
+use Rattle.recut_checks.proofs.Pieced.{Pieced}
 use Rattle.recut.specs.declared.Piece.{Piece}
-use Rattle.recut.specs.Pieces.{pieceCount, nextPiece, pieceAt}
-use Rattle.recut.proofs.Walk.{At, walk, Followed, Last, followed-or-last}
-use Rattle.recut.proofs.Facts.{CutFits, the-piece}
+use Rattle.recut.specs.Pieces.{nextPiece, pieceAt}
+use Rattle.recut.proofs.Walk.{At, walk, Followed, Last, followed-or-last, piece-of}
 
-module _ (old : Corridor) (pieces new : List ℕ) (known : CutFits old pieces new) where
+module _ (whole pieces parts : List ℕ) (known : Pieced whole pieces parts) where
   -- after the last piece every cell is passed
-  all-passed : (pieceAt pieces new (cells new) .cell ≡ cellsOf old) × (pieceAt pieces new (cells new) .number ≡ 0)
-  all-passed = by (decLt (end .cell) (cellsOf old))
+  all-passed : (pieceAt pieces parts (cells parts) .cell ≡ cells whole) × (pieceAt pieces parts (cells parts) .number ≡ 0)
+  all-passed = by (decLt (end .cell) (cells whole))
     where
       end : Piece
-      end = pieceAt pieces new (cells new)
+      end = pieceAt pieces parts (cells parts)
 
-      at-end : At (cellsOf old) pieces new (cells new) (pieceAt pieces new (cells new))
-      at-end = walk (cellsOf old) (cells new) pieces new (λ i below. known .each i below .some) (known .sums) (cells new) (omega arith)
+      at-end : At (cells whole) pieces parts (cells parts) (pieceAt pieces parts (cells parts))
+      at-end = walk (cells whole) (cells parts) pieces parts (λ i below. known .each i below .some) (known .sums) (cells parts) (omega arith)
 
-      by : Dec (end .cell < cellsOf old) → (end .cell ≡ cellsOf old) × (end .number ≡ 0)
+      by : Dec (end .cell < cells whole) → (end .cell ≡ cells whole) × (end .number ≡ 0)
       by (yes inside) =
-          absurd (omega (arith, at-end .at, at-end .number-is inside, known .sums, sum-grows (suc (end .cell)) (cellsOf old) (pieceCount pieces) inside))
+          absurd (omega (arith, at-end .at, at-end .number-is inside, known .sums, sum-grows (suc (end .cell)) (cells whole) (pieceCount pieces) inside))
       by (no outside) =
-          let same : end .cell ≡ cellsOf old = omega (arith, outside, at-end .reaches) in
+          let same : end .cell ≡ cells whole = omega (arith, outside, at-end .reaches) in
           (same, omega (arith, known .sums, rw same at (at-end .at)))
 
   -- what holds at the start and is handed on, within a cell and from its last piece to the next cell, holds at the road's end
   module _ (P : ℕ → ℕ → ℕ → Type 0) (start : P 0 0 0)
-      (within : (j : ℕ) → j < cells new → let piece = pieceAt pieces new j in P j (piece .cell) (piece .number) → Followed pieces piece → P (suc j) (piece .cell) (piece .number + 1))
-      (after : (j : ℕ) → j < cells new → let piece = pieceAt pieces new j in P j (piece .cell) (piece .number) → Last pieces piece → P (suc j) (suc (piece .cell)) 0) where
-    along : (j : ℕ) → j ≤ cells new → P j (pieceAt pieces new j .cell) (pieceAt pieces new j .number)
+      (within : (j : ℕ) → j < cells parts → let piece = pieceAt pieces parts j in P j (piece .cell) (piece .number) → Followed pieces piece → P (suc j) (piece .cell) (piece .number + 1))
+      (after : (j : ℕ) → j < cells parts → let piece = pieceAt pieces parts j in P j (piece .cell) (piece .number) → Last pieces piece → P (suc j) (suc (piece .cell)) 0) where
+    along : (j : ℕ) → j ≤ cells parts → P j (pieceAt pieces parts j .cell) (pieceAt pieces parts j .number)
     unfolding pieceAt
     along zero h = start
-    along (suc j) h = by (followed-or-last (the-piece old pieces new known j h)) (along j (omega arith))
+    along (suc j) h = by (followed-or-last (piece-of known j h)) (along j (omega arith))
       where
         piece : Piece
-        piece = pieceAt pieces new j
+        piece = pieceAt pieces parts j
 
         next : Piece
-        next = nextPiece pieces piece (rowAt new j .jam)
+        next = nextPiece pieces piece (rowAt parts j .jam)
 
         by : Followed pieces piece ⊎ Last pieces piece → P j (piece .cell) (piece .number) → P (suc j) (next .cell) (next .number)
         by (inl more) p = rw (lt-ltb (piece .number + 1) (pieceCount pieces (piece .cell)) more) (within j h p more)
         by (inr all) p = rw (le-ltb (piece .number + 1) (pieceCount pieces (piece .cell)) (omega arith), add-one (piece .cell)) (after j h p all)
 
-    pub to-the-end : P (cells new) (cellsOf old) 0
-    to-the-end = rw (all-passed .0, all-passed .1) at (along (cells new) (omega arith))
+    pub to-the-end : P (cells parts) (cells whole) 0
+    to-the-end = rw (all-passed .0, all-passed .1) at (along (cells parts) (omega arith))
 
   -- what the pieces of a cell carry adds up, piece by piece, to what the cell had: so do the sums
-  pub sums-carry : (g had : ℕ → ℕ) (part : ℕ → ℕ → ℕ) → ((i : ℕ) → part i 0 ≡ 0) → ((j : ℕ) → j < cells new → let piece = pieceAt pieces new j in Followed pieces piece → part (piece .cell) (piece .number) + g j ≡ part (piece .cell) (piece .number + 1)) → ((j : ℕ) → j < cells new → let piece = pieceAt pieces new j in Last pieces piece → part (piece .cell) (piece .number) + g j ≡ had (piece .cell)) → sum (cells new) g ≡ sum (cellsOf old) had
+  pub sums-carry : (g had : ℕ → ℕ) (part : ℕ → ℕ → ℕ) → ((i : ℕ) → part i 0 ≡ 0) → ((j : ℕ) → j < cells parts → let piece = pieceAt pieces parts j in Followed pieces piece → part (piece .cell) (piece .number) + g j ≡ part (piece .cell) (piece .number + 1)) → ((j : ℕ) → j < cells parts → let piece = pieceAt pieces parts j in Last pieces piece → part (piece .cell) (piece .number) + g j ≡ had (piece .cell)) → sum (cells parts) g ≡ sum (cells whole) had
   sums-carry g had part none more all =
       omega
-      (arith, none (cellsOf old), to-the-end (λ j i k. sum j g ≡ sum i had + part i k) (omega (arith, none 0)) (λ j h so followed. omega (arith, more j h followed)) (λ j h so last. omega (arith, all j h last, none (suc (pieceAt pieces new j .cell)))))
+      (arith, none (cells whole), to-the-end (λ j i k. sum j g ≡ sum i had + part i k) (omega (arith, none 0)) (λ j h so followed. omega (arith, more j h followed)) (λ j h so last. omega (arith, all j h last, none (suc (pieceAt pieces parts j .cell)))))
 
   -- the first piece has the whole and the others nothing
-  pub first-carries : (g had : ℕ → ℕ) → ((j : ℕ) → j < cells new → pieceAt pieces new j .number ≡ 0 → g j ≡ had (pieceAt pieces new j .cell)) → ((j : ℕ) → j < cells new → (pieceAt pieces new j .number ≡ 0 → ⊥) → g j ≡ 0) → sum (cells new) g ≡ sum (cellsOf old) had
+  pub first-carries : (g had : ℕ → ℕ) → ((j : ℕ) → j < cells parts → pieceAt pieces parts j .number ≡ 0 → g j ≡ had (pieceAt pieces parts j .cell)) → ((j : ℕ) → j < cells parts → (pieceAt pieces parts j .number ≡ 0 → ⊥) → g j ≡ 0) → sum (cells parts) g ≡ sum (cells whole) had
   first-carries g had first others =
-      sums-carry g had (λ i k. pick (eqb k 0) 0 (had i)) (λ i. refl) (λ j h _. rw (ne-eqb (pieceAt pieces new j .number + 1) 0 (λ e. omega arith)) (whole j h (ℕ-discrete _ 0))) (λ j h _. whole j h (ℕ-discrete _ 0))
+      sums-carry g had (λ i k. pick (eqb k 0) 0 (had i)) (λ i. refl) (λ j h _. rw (ne-eqb (pieceAt pieces parts j .number + 1) 0 (λ e. omega arith)) (all-of j h (ℕ-discrete _ 0))) (λ j h _. all-of j h (ℕ-discrete _ 0))
     where
-      whole : (j : ℕ) → j < cells new → let piece = pieceAt pieces new j in Dec (piece .number ≡ 0) → pick (eqb (piece .number) 0) 0 (had (piece .cell)) + g j ≡ had (piece .cell)
-      whole j h (yes e) = rw (eq-eqb (pieceAt pieces new j .number) 0 e) (omega (arith, first j h e))
-      whole j h (no other) = rw (ne-eqb (pieceAt pieces new j .number) 0 other) (omega (arith, others j h other))
+      all-of : (j : ℕ) → j < cells parts → let piece = pieceAt pieces parts j in Dec (piece .number ≡ 0) → pick (eqb (piece .number) 0) 0 (had (piece .cell)) + g j ≡ had (piece .cell)
+      all-of j h (yes e) = rw (eq-eqb (pieceAt pieces parts j .number) 0 e) (omega (arith, first j h e))
+      all-of j h (no other) = rw (ne-eqb (pieceAt pieces parts j .number) 0 other) (omega (arith, others j h other))
 
   -- the last piece has the whole and the others nothing
-  pub last-carries : (g had : ℕ → ℕ) → ((j : ℕ) → j < cells new → Last pieces (pieceAt pieces new j) → g j ≡ had (pieceAt pieces new j .cell)) → ((j : ℕ) → j < cells new → Followed pieces (pieceAt pieces new j) → g j ≡ 0) → sum (cells new) g ≡ sum (cellsOf old) had
+  pub last-carries : (g had : ℕ → ℕ) → ((j : ℕ) → j < cells parts → Last pieces (pieceAt pieces parts j) → g j ≡ had (pieceAt pieces parts j .cell)) → ((j : ℕ) → j < cells parts → Followed pieces (pieceAt pieces parts j) → g j ≡ 0) → sum (cells parts) g ≡ sum (cells whole) had
   last-carries g had last others =
       sums-carry g had (λ i k. 0) (λ i. refl) (λ j h followed. omega (arith, others j h followed)) (λ j h is. omega (arith, last j h is))

@@ -1,3 +1,4 @@
 pub mod Shares
 pub mod Along
+pub mod Ramps
 pub mod Kept
