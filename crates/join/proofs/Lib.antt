@@ -1,0 +1,5 @@
+pub mod Sums
+pub mod Facts
+pub mod Groups
+pub mod Answers
+pub mod Settled

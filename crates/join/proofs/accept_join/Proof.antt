@@ -1,0 +1,58 @@
+-- `join::accept_join` meets its contract. Assumes nothing.
+use mathlib.Core.Path.{_≡_, sym, _∙_}
+use borrow.Author.Needs.{needs}
+use Rattle.refusals.specs.declared.Answer.the-variants.{Accepted}
+use Rattle.refusals.specs.Checks.{answer}
+use Rattle.layout.specs.Corridor.{Corridor, corridorOf}
+use Rattle.recut_checks.specs.Change.{changeChecks}
+use Rattle.join.proofs.Answers.{change-refused, group-refused, accepts}
+use Rattle.join.proofs.accept_join.Statement.{statement}
+use Rattle.join.proofs.accept_join.Tie as tie
+
+abbrev begin : tie.After-accept-change → tie.Start
+begin c = c .before .before .before .before .before .before .before
+
+abbrev corridor : tie.After-accept-change → Corridor
+corridor c = corridorOf (begin c .args .old .now) (begin c .args .state .now)
+
+returns : tie.Need-returns
+returns c =
+    let change = c .before .before .before in
+    let a = begin change .args in
+    let refused = sym (c .before .change .given .1) ∙ change .accept-change .ensures in
+    change-refused (corridor change) (a .groups .now) (a .new .now) (a .list .now) (change .before .cells .ensures) refused
+
+-- 1 to 5 are passed
+passed : (c : tie.After-enum-told) → let change = c .before .before in
+    let a = begin change .args in
+    Accepted ≡ answer (changeChecks (corridor change) (a .groups .now) (change .before .cells .result) (a .new .now) (a .list .now))
+passed c = sym (c .enum-told .given .1) ∙ c .before .before .accept-change .ensures
+
+returns-2 : tie.Need-returns-2
+returns-2 c =
+    let told = c .before .before in
+    let change = told .before .before in
+    let a = begin change .args in
+    let n-is = change .before .cells .ensures in
+    group-refused (corridor change) (a .groups .now) (a .new .now) (a .list .now) n-is (passed told) (c .before .misfit .ensures) (c .if1 .taken)
+
+returns-3 : tie.Need-returns-3
+returns-3 c =
+    let told = c .before .before in
+    let change = told .before .before in
+    let a = begin change .args in
+    let n-is = change .before .cells .ensures in
+    accepts (corridor change) (a .groups .now) (a .new .now) (a .list .now) n-is (passed told) (c .before .misfit .ensures) (c .if1 .left)
+
+pub accept-join-spec : {M : Type 1} → statement M
+accept-join-spec =
+    tie.close
+    (tie.spec
+    (λ c κs. search needs)
+    (λ c κs. search needs)
+    (λ c. search needs)
+    returns
+    (λ c. search needs)
+    (λ c κs. search needs)
+    returns-2
+    returns-3)

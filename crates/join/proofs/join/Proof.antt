@@ -1,0 +1,32 @@
+-- `join::join` meets its contract. Assumes nothing.
+use mathlib.Core.Path.{sym, _∙_}
+use borrow.Author.Needs.{needs}
+use Rattle.join.proofs.join.Statement.{statement}
+use Rattle.join.proofs.join.Tie as tie
+
+returns : tie.Need-returns
+returns c =
+    let refused = sym (c .before .found .given .1) ∙ c .before .before .before .accept-join .ensures in
+    record { answered = refused; leaves = rw (← refused) }
+
+add-up-requires : tie.Need-add-up-requires
+add-up-requires c κs = sym (c .before .before .before .accept-join .ensures) ∙ c .before .enum-told .given .1
+
+returns-2 : tie.Need-returns-2
+returns-2 c =
+    let told = c .before .before .before .before in
+    let accepted = sym (told .enum-told .given .1) ∙ told .before .before .accept-join .ensures in
+    record { answered = accepted; leaves = rw (← accepted) (c .before .before .add-up .ensures) }
+
+pub join-spec : {M : Type 1} → statement M
+join-spec =
+    tie.close
+    (tie.spec
+    (λ c κs. search needs)
+    (λ c. search needs)
+    (λ c. search needs)
+    returns
+    (λ c. search needs)
+    add-up-requires
+    (λ c. search needs)
+    returns-2)
