@@ -1,5 +1,4 @@
 pub mod Sums
 pub mod Facts
 pub mod Groups
-pub mod Answers
 pub mod Settled

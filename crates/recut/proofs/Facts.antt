@@ -1,45 +1,22 @@
 -- What an accepted re-cut is known to start from, cell by cell and piece by piece. Assumes nothing.
 use Prim.Native.Nat.{ℕ, suc, _+_, _≤_, _<_}
 use mathlib.Core.Path.{_≡_, ap, _∙_}
-use mathlib.Core.List.{List, [], _∷_}
+use mathlib.Core.List.{List}
 use native.Mathlib.Omega.{arith}
 use lib.ListN.{length}
 use Rattle.whole.proofs.Sums.{sum-grows}
-use Rattle.refusals.specs.declared.Refusal.the-variants.{Pieces}
-use Rattle.refusals.specs.declared.Answer.the-variants.{Accepted}
-use Rattle.refusals.specs.Checks.{answer}
-use Rattle.refusals.proofs.Answers.{accepted-passes, accepted-both}
-use Rattle.layout.specs.Layout.{MOST, cells, rowAt, stateLength}
+use Rattle.layout.specs.Layout.{MOST, cells, rowAt}
 use Rattle.layout.specs.Corridor.{Corridor, cellsOf, rowOf}
-use Rattle.recut_checks.specs.Pieces.{pieceCount, firstPiece, jamBefore, piecesNumber}
-use Rattle.recut_checks.specs.Change.{changeChecks}
-use Rattle.recut_checks.proofs.Pieced.{Pieced, pieced, jams-more}
-use Rattle.recut_checks.proofs.Change.{ChangeFits, change-fits, lists-accepted}
+use Rattle.recut_checks.specs.Pieces.{pieceCount, firstPiece, jamBefore}
+use Rattle.recut_checks.proofs.Pieced.{jams-more}
+use Rattle.recut_checks.proofs.Change.{Fits}
 use Rattle.recut.specs.declared.Piece.{Piece}
 use Rattle.recut.specs.Pieces.{pieceAt}
-use Rattle.recut.specs.Recut.{recutChecks}
 use Rattle.recut.specs.Private.{Cuttable}
 use Rattle.recut.proofs.Walk.{On, piece-of}
 
-pub record CutFits (old : Corridor) (pieces new : List ℕ) : Type 0 where
-  pub change : ChangeFits old new
-  pub counts : length pieces ≡ cellsOf old
-  pub pieced : Pieced (old .table) pieces new
-
-module _ (old : Corridor) (pieces new list : List ℕ) (e : answer (recutChecks old pieces new list) ≡ Accepted) where
-  each-part : (answer (changeChecks old pieces (cellsOf old) new list) ≡ Accepted) × (answer (piecesNumber Pieces (old .table) pieces new ∷ []) ≡ Accepted)
-  each-part = accepted-both (changeChecks old pieces (cellsOf old) new list) (piecesNumber Pieces (old .table) pieces new ∷ []) e
-
-  pub list-length : length list ≡ stateLength (cells new)
-  list-length = lists-accepted old pieces (cellsOf old) new list (each-part .0) .list-length
-
-  pub cut-fits : CutFits old pieces new
-  cut-fits =
-      record {
-        change = change-fits old pieces (cellsOf old) new list (each-part .0);
-        counts = lists-accepted old pieces (cellsOf old) new list (each-part .0) .counted;
-        pieced = pieced (old .table) pieces new (accepted-passes _ _ (each-part .1) .0);
-      }
+abbrev pub CutFits : Corridor → List ℕ → List ℕ → Type 0
+CutFits old pieces new = Fits old pieces new (old .table) new
 
 -- a piece and what the work on it asks
 module _ (old : Corridor) (pieces new : List ℕ) (known : CutFits old pieces new) (j : ℕ) (h : j < cells new) where

@@ -1,24 +1,23 @@
 -- How the answer of a change goes from part to part. Assumes nothing.
-use Prim.Native.Nat.{ℕ, _+_, _≤_, _<_}
+use Prim.Native.Nat.{ℕ, _≤_, _<_}
 use mathlib.Core.Path.{_≡_, refl, sym, ap₂, _∙_}
 use mathlib.Core.Bool.{true, false, _&&_}
 use mathlib.Core.List.{List, [], _∷_, _++_}
 use native.Mathlib.Omega.{arith}
 use borrow.Author.Tests.{eq-eqb}
-use Rattle.whole.specs.Search.{firstFailing}
 use Rattle.whole.proofs.Tests.{both-hold}
 use Rattle.refusals.specs.declared.Refusal.{Refusal}
 use Rattle.refusals.specs.declared.Refusal.the-variants.{Length}
 use Rattle.refusals.specs.declared.Answer.{Answer}
 use Rattle.refusals.specs.declared.Answer.the-variants.{Accepted, Refused}
-use Rattle.refusals.specs.Checks.{Check, answer}
+use Rattle.refusals.specs.Checks.{Check, least, answer}
 use Rattle.refusals.proofs.Answers.{length-fails, length-fits-too, lengths-passed, refused-stays, accepted-goes-on, accepted-passes, stops, passes}
 use Rattle.layout.specs.Layout.{cells}
 use Rattle.layout.specs.Corridor.{Corridor}
 use Rattle.accept_tables.specs.Tables.{tableLengthFits, bothTables, bothTablesChecks}
 use Rattle.accept_rows.specs.Acceptance.{stateInRange, stateAloneChecks}
-use Rattle.recut_checks.specs.Pieces.{piecesHold, piecesNumber}
-use Rattle.recut_checks.specs.Change.{changeListsFit, changeChecks}
+use Rattle.recut_checks.specs.Pieces.{piecesNumber}
+use Rattle.recut_checks.specs.Change.{changeListsFit, changeChecks, withPieces}
 use Rattle.recut_checks.proofs.Change.{ListsFit}
 
 pub lists-refused : (old : Corridor) (counts : List ℕ) (many : ℕ) (new list : List ℕ) → changeListsFit old counts many new list ≡ false → Refused Length ≡ answer (changeChecks old counts many new list)
@@ -40,14 +39,23 @@ module _ {old : Corridor} {counts : List ℕ} {many : ℕ} {new list : List ℕ}
       let alone = lengths-passed (stateInRange old ∷ []) (ap₂ (λ a b. a && b) table (eq-eqb _ _ (lists .state-length))) in
       accepted-goes-on (bothTablesChecks (old .table) new) (stateInRange old ∷ []) tables (e ∙ alone) ∙ checks-are
 
--- what is asked of the pieces comes last: it decides where the change is accepted
-module _ (give : ℕ → Refusal) (checks : List Check) (whole pieces parts : List ℕ) where
-  pub change-refused : {refusal : Refusal} → Refused refusal ≡ answer checks → Refused refusal ≡ answer (checks ++ (piecesNumber give whole pieces parts ∷ []))
-  change-refused = refused-stays checks (piecesNumber give whole pieces parts ∷ [])
+-- what is asked of the pieces comes last: it decides where the change is accepted; n is the number of whole cells, as the code has it
+module _ (give : ℕ → Refusal) (old : Corridor) (pieces new list whole parts : List ℕ) {n : ℕ} (n-is : n ≡ cells whole) where
+  abbrev change : List Check
+  change = changeChecks old pieces (cells whole) new list
 
-  module _ {n at : ℕ} (accepted : Accepted ≡ answer checks) (all : n ≡ cells whole) (is : at ≡ firstFailing (cells whole + 1) (piecesHold whole pieces parts)) where
-    pub pieces-refused : at ≤ n → Refused (give at) ≡ answer (checks ++ (piecesNumber give whole pieces parts ∷ []))
-    pieces-refused h = accepted-goes-on checks _ accepted (stops (piecesNumber give whole pieces parts) Accepted is (omega (arith, all)))
+  abbrev number : Check
+  number = piecesNumber give whole pieces parts
 
-    pub pieces-accepted : n < at → Accepted ≡ answer (checks ++ (piecesNumber give whole pieces parts ∷ []))
-    pieces-accepted h = accepted-goes-on checks _ accepted (passes (piecesNumber give whole pieces parts) is (omega (arith, all)) refl)
+  pub change-refused : {refusal : Refusal} → Refused refusal ≡ answer (changeChecks old pieces n new list) → Refused refusal ≡ answer (withPieces give old pieces new list whole parts)
+  change-refused refused = refused-stays change (number ∷ []) (refused ∙ rw n-is)
+
+  module _ {at : ℕ} (accepted : Accepted ≡ answer (changeChecks old pieces n new list)) (found : at ≡ least (piecesNumber give whole pieces parts)) where
+    changes : Accepted ≡ answer change
+    changes = accepted ∙ rw n-is
+
+    pub pieces-refused : at ≤ n → Refused (give at) ≡ answer (withPieces give old pieces new list whole parts)
+    pieces-refused within = accepted-goes-on change (number ∷ []) changes (stops number Accepted found (omega (arith, n-is)))
+
+    pub pieces-accepted : n < at → Accepted ≡ answer (withPieces give old pieces new list whole parts)
+    pieces-accepted past = accepted-goes-on change (number ∷ []) changes (passes number found (omega (arith, n-is)) refl)

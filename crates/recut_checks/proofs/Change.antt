@@ -9,6 +9,7 @@ use lib.Dec.{eqb}
 use lib.ListN.{length}
 use Rattle.whole.proofs.Search.{Passes}
 use Rattle.whole.proofs.Tests.{both-hold}
+use Rattle.refusals.specs.declared.Refusal.{Refusal}
 use Rattle.refusals.specs.declared.Answer.the-variants.{Accepted}
 use Rattle.refusals.specs.Checks.{Check, answer}
 use Rattle.refusals.proofs.Answers.{accepted-passes, passes-accepted, accepted-both, both-accepted}
@@ -20,7 +21,9 @@ use Rattle.accept_tables.proofs.Accepted.{TableFits, table-fits}
 use Rattle.accept_rows.specs.Acceptance.{stateInRange, stateNumbers}
 use Rattle.accept_rows.proofs.Lengths.{cells-fit}
 use Rattle.accept_rows.proofs.Accepted.{StateFits, state-fits}
-use Rattle.recut_checks.specs.Change.{changeListsFit, changeChecks}
+use Rattle.recut_checks.specs.Pieces.{piecesNumber}
+use Rattle.recut_checks.specs.Change.{changeListsFit, changeChecks, withPieces}
+use Rattle.recut_checks.proofs.Pieced.{Pieced, pieced}
 
 -- the lengths of the lists under the two tables
 pub record ListsFit (old : Corridor) (counts : List ℕ) (many : ℕ) (new list : List ℕ) : Type 0 where
@@ -75,10 +78,10 @@ module _ (old : Corridor) (counts : List ℕ) (many : ℕ) (new list : List ℕ)
       let tables = both-hold (tableLengthFits (old .table)) _ (both .0) in
       (tables .0, tables .1, lists-fit old counts many new list (both .1))
 
-  pub lists-accepted : ListsFit old counts many new list
+  lists-accepted : ListsFit old counts many new list
   lists-accepted = lengths-hold .2
 
-  pub change-fits : ChangeFits old new
+  change-fits : ChangeFits old new
   change-fits =
       let both = accepted-both (bothTables (old .table) new) (stateInRange old ∷ []) (accepted-passes _ _ e .1) in
       let tables = each-table (old .table) new (both .0) in
@@ -94,4 +97,25 @@ module _ (old : Corridor) (counts : List ℕ) (many : ℕ) (new list : List ℕ)
         state-fits-it = state-fits old state;
         old-fits = table-fits (old .table) (tables .0);
         new-fits = table-fits new (tables .1);
+      }
+
+-- what an accepted re-cut or join is known to start from
+pub record Fits (old : Corridor) (pieces new whole parts : List ℕ) : Type 0 where
+  pub change : ChangeFits old new
+  pub counts : length pieces ≡ cells whole
+  pub pieced : Pieced whole pieces parts
+
+module _ (give : ℕ → Refusal) (old : Corridor) (pieces new list whole parts : List ℕ) (e : answer (withPieces give old pieces new list whole parts) ≡ Accepted) where
+  each-part : (answer (changeChecks old pieces (cells whole) new list) ≡ Accepted) × (answer (piecesNumber give whole pieces parts ∷ []) ≡ Accepted)
+  each-part = accepted-both (changeChecks old pieces (cells whole) new list) (piecesNumber give whole pieces parts ∷ []) e
+
+  pub list-length : length list ≡ stateLength (cells new)
+  list-length = lists-accepted old pieces (cells whole) new list (each-part .0) .list-length
+
+  pub fits : Fits old pieces new whole parts
+  fits =
+      record {
+        change = change-fits old pieces (cells whole) new list (each-part .0);
+        counts = lists-accepted old pieces (cells whole) new list (each-part .0) .counted;
+        pieced = pieced whole pieces parts (accepted-passes _ _ (each-part .1) .0);
       }

@@ -2,6 +2,7 @@
 use Prim.Native.Nat.{ℕ, zero, suc, _+_, _≤_, _<_}
 use mathlib.Core.Path.{_≡_, refl}
 use mathlib.Core.Logic.{_⊎_, inl, inr}
+use mathlib.Core.Bool.{Bool, true, false}
 use mathlib.Core.List.{List}
 use native.Mathlib.Numerals.{add-one}
 use native.Mathlib.Omega.{arith}
@@ -17,6 +18,11 @@ use Rattle.recut_checks.proofs.Pieced.{Pieced}
 use Rattle.recut.specs.declared.Piece.{Piece}
 use Rattle.recut.specs.Pieces.{nextPiece, pieceAt}
 use Rattle.recut.proofs.Walk.{At, walk, Followed, Last, followed-or-last, piece-of}
+
+-- nothing, whether it is picked or not
+pub pick-none : (b : Bool) → _≡_ {A = ℕ} (pick b 0 0) 0
+pick-none true = refl
+pick-none false = refl
 
 module _ (whole pieces parts : List ℕ) (known : Pieced whole pieces parts) where
   -- after the last piece every cell is passed

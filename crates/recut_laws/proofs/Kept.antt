@@ -1,7 +1,6 @@
 -- What a re-cut keeps. Assumes nothing.
 use Prim.Native.Nat.{ℕ, zero, suc, _+_, _*_, _/_, _≤_, _<_, zero-le}
 use mathlib.Core.Path.{_≡_, refl, sym, ap, ap₂, _∙_}
-use mathlib.Core.Bool.{Bool, true, false}
 use mathlib.Core.List.{List, [], _∷_}
 use native.Mathlib.Omega.{arith}
 use native.Mathlib.Decide.{ℕ-discrete}
@@ -30,7 +29,7 @@ use Rattle.recut.proofs.Walk.{On, Last}
 use Rattle.recut.proofs.Shares.{share-grows, share-of-none}
 use Rattle.recut.proofs.Facts.{CutFits, the-piece, jams-with, cuttable}
 use Rattle.recut_laws.proofs.Shares.{share-of-all, piece-fits}
-use Rattle.recut_laws.proofs.Along.{sums-carry, first-carries}
+use Rattle.recut_laws.proofs.Along.{pick-none, sums-carry, first-carries}
 use Rattle.recut_laws.proofs.Ramps.{first-has-on-ramp}
 
 module _ (old : Corridor) (pieces new : List ℕ) (known : CutFits old pieces new) where
@@ -101,10 +100,6 @@ module _ (old : Corridor) (pieces new : List ℕ) (known : CutFits old pieces ne
   -- total vehicles in cells and queues are unchanged
   pub cut-keeps-vehicles : vehicles (newCorridor old pieces new) ≡ vehicles old
   cut-keeps-vehicles = omega (arith, new-entry, cut-keeps-counts, cut-keeps-queues)
-
-  pick-none : (b : Bool) → _≡_ {A = ℕ} (pick b 0 0) 0
-  pick-none true = refl
-  pick-none false = refl
 
   -- each on-ramp's queue is found under the same ramp number
   pub cut-keeps-each-queue : (ramp : ℕ) → atOnRamp new ramp (queueOf (newCorridor old pieces new)) ≡ atOnRamp (old .table) ramp (queueOf old)

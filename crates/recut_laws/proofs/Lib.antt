@@ -2,3 +2,4 @@ pub mod Shares
 pub mod Along
 pub mod Ramps
 pub mod Kept
+pub mod Joined

@@ -1,11 +1,12 @@
 -- `join::accept_join` meets its contract. Assumes nothing.
 use mathlib.Core.Path.{_≡_, sym, _∙_}
 use borrow.Author.Needs.{needs}
+use Rattle.refusals.specs.declared.Refusal.the-variants.{Groups}
 use Rattle.refusals.specs.declared.Answer.the-variants.{Accepted}
 use Rattle.refusals.specs.Checks.{answer}
 use Rattle.layout.specs.Corridor.{Corridor, corridorOf}
 use Rattle.recut_checks.specs.Change.{changeChecks}
-use Rattle.join.proofs.Answers.{change-refused, group-refused, accepts}
+use Rattle.recut_checks.proofs.Answers.{change-refused, pieces-refused, pieces-accepted}
 use Rattle.join.proofs.accept_join.Statement.{statement}
 use Rattle.join.proofs.accept_join.Tie as tie
 
@@ -20,7 +21,7 @@ returns c =
     let change = c .before .before .before in
     let a = begin change .args in
     let refused = sym (c .before .change .given .1) ∙ change .accept-change .ensures in
-    change-refused (corridor change) (a .groups .now) (a .new .now) (a .list .now) (change .before .cells .ensures) refused
+    change-refused Groups (corridor change) (a .groups .now) (a .new .now) (a .list .now) (a .new .now) (a .old .now) (change .before .cells .ensures) refused
 
 -- 1 to 5 are passed
 passed : (c : tie.After-enum-told) → let change = c .before .before in
@@ -34,7 +35,7 @@ returns-2 c =
     let change = told .before .before in
     let a = begin change .args in
     let n-is = change .before .cells .ensures in
-    group-refused (corridor change) (a .groups .now) (a .new .now) (a .list .now) n-is (passed told) (c .before .misfit .ensures) (c .if1 .taken)
+    pieces-refused Groups (corridor change) (a .groups .now) (a .new .now) (a .list .now) (a .new .now) (a .old .now) n-is (passed told) (c .before .misfit .ensures) (c .if1 .taken)
 
 returns-3 : tie.Need-returns-3
 returns-3 c =
@@ -42,7 +43,7 @@ returns-3 c =
     let change = told .before .before in
     let a = begin change .args in
     let n-is = change .before .cells .ensures in
-    accepts (corridor change) (a .groups .now) (a .new .now) (a .list .now) n-is (passed told) (c .before .misfit .ensures) (c .if1 .left)
+    pieces-accepted Groups (corridor change) (a .groups .now) (a .new .now) (a .list .now) (a .new .now) (a .old .now) n-is (passed told) (c .before .misfit .ensures) (c .if1 .left)
 
 pub accept-join-spec : {M : Type 1} → statement M
 accept-join-spec =

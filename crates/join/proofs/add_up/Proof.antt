@@ -4,9 +4,10 @@ use mathlib.Core.Path.{_≡_, refl}
 use native.Mathlib.Omega.{arith}
 use borrow.Author.Needs.{needs}
 use lib.ListN.{length}
+use Rattle.refusals.specs.declared.Refusal.the-variants.{Groups}
 use Rattle.layout.specs.Layout.{cells, stateLength}
 use Rattle.layout.specs.Corridor.{corridorOf}
-use Rattle.join.proofs.Facts.{join-fits, list-length}
+use Rattle.recut_checks.proofs.Change.{list-length, fits}
 use Rattle.join.proofs.Groups.{AddingUp, begins, size-inside, work, goes-on, ends}
 use Rattle.join.proofs.add_up.Statement.{statement}
 use Rattle.join.proofs.add_up.Tie as tie
@@ -20,13 +21,14 @@ abbrev μ-loop : tie.MeasureT-loop
 long : (s : tie.Start Inv-loop μ-loop) → length (s .args .list .now) ≡ stateLength (cells (s .args .new .now))
 long s =
     let a = s .args in
-    list-length (corridorOf (a .old .now) (a .state .now)) (a .groups .now) (a .new .now) (a .list .now) (s .pre)
+    list-length Groups (corridorOf (a .old .now) (a .state .now)) (a .groups .now) (a .new .now) (a .list .now) (a .new .now) (a .old .now) (s .pre)
 
 loop-holds : tie.Need-loop-holds Inv-loop μ-loop
 loop-holds c =
     let start = c .before .before .before .before .before .before in
     let a = start .args in
-    let known = join-fits (corridorOf (a .old .now) (a .state .now)) (a .groups .now) (a .new .now) (a .list .now) (start .pre) in
+    let old = corridorOf (a .old .now) (a .state .now) in
+    let known = fits Groups old (a .groups .now) (a .new .now) (a .list .now) (a .new .now) (a .old .now) (start .pre) in
     begins _ known (c .cells .ensures) (long start)
 
 shared-slice-read-size : tie.Need-shared-slice-read-size Inv-loop μ-loop

@@ -4,9 +4,10 @@ use mathlib.Core.Path.{_≡_}
 use native.Mathlib.Omega.{arith}
 use borrow.Author.Needs.{needs}
 use lib.ListN.{length}
+use Rattle.refusals.specs.declared.Refusal.the-variants.{Pieces}
 use Rattle.layout.specs.Layout.{cells, stateLength}
 use Rattle.layout.specs.Corridor.{corridorOf}
-use Rattle.recut.proofs.Facts.{list-length, cut-fits}
+use Rattle.recut_checks.proofs.Change.{list-length, fits}
 use Rattle.recut.proofs.Cutting.{Cutting, begins, work, next-asked, goes-on, ends}
 use Rattle.recut.proofs.cut.Statement.{statement}
 use Rattle.recut.proofs.cut.Tie as tie
@@ -20,14 +21,14 @@ abbrev μ-loop : tie.MeasureT-loop
 long : (s : tie.Start Inv-loop μ-loop) → length (s .args .list .now) ≡ stateLength (cells (s .args .new .now))
 long s =
     let a = s .args in
-    list-length (corridorOf (a .old .now) (a .state .now)) (a .pieces .now) (a .new .now) (a .list .now) (s .pre)
+    list-length Pieces (corridorOf (a .old .now) (a .state .now)) (a .pieces .now) (a .new .now) (a .list .now) (a .old .now) (a .new .now) (s .pre)
 
 loop-holds : tie.Need-loop-holds Inv-loop μ-loop
 loop-holds c =
     let start = c .before .before .before .before .before .before in
     let a = start .args in
     let old = corridorOf (a .old .now) (a .state .now) in
-    begins old (a .pieces .now) (a .new .now) _ (cut-fits old (a .pieces .now) (a .new .now) (a .list .now) (start .pre)) (c .cells .ensures) (long start)
+    begins old (a .pieces .now) (a .new .now) _ (fits Pieces old (a .pieces .now) (a .new .now) (a .list .now) (a .old .now) (a .new .now) (start .pre)) (c .cells .ensures) (long start)
 
 fill-requires : tie.Need-fill-requires Inv-loop μ-loop
 fill-requires c κs =
