@@ -9,7 +9,8 @@ use Rattle.period.specs.Cell.{M, offFlow}
 use Rattle.period.specs.Sharing.{asymmetric}
 use Rattle.period.specs.Updated.{updated}
 use Rattle.period.specs.Period.{nodeAt, flowAt, offFlowAt, modeAt, sheetOf, stateAfter}
-use Rattle.recut.specs.Pieces.{jamBefore, piecesFit, pieceAt}
+use Rattle.recut_checks.specs.Pieces.{jamBefore, piecesFit}
+use Rattle.recut.specs.Pieces.{pieceAt}
 use Rattle.recut.specs.Recut.{pieceCell}
 use Rattle.figures.specs.Figures.{same, plain, thirds, ofTen, holds, allHold, road, offRamp, starred}
 

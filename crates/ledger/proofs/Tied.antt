@@ -10,8 +10,9 @@ use Rattle.period.specs.Sharing.{Sharing}
 use Rattle.period.specs.Period.{stateAfter, corridorAfter, periodChecks, PeriodDone}
 use Rattle.period_run.specs.declared.Ran.{Ran}
 use Rattle.period_run.specs.Run.{corridorAfterPeriods, periodsRun, RunDone}
-use Rattle.recut.specs.Recut.{newState, newCorridor, recutChecks, RecutDone}
-use Rattle.ledger.specs.Calls.{period, run, recut, leaves}
+use Rattle.recut.specs.Recut.{newState, recutChecks, RecutDone}
+use Rattle.join.specs.Join.{joinedState, joinChecks, JoinDone}
+use Rattle.ledger.specs.Calls.{period, run, recut, join, leaves}
 
 module _ (way : Sharing) (c : Corridor) where
   -- a period leaves its table and the state that its promise tells
@@ -33,11 +34,17 @@ module _ (way : Sharing) (c : Corridor) where
   unfolding leaves
   run-leaves {demand} {sheet} done = ap (corridorOf (c .table)) (done .leavesState) ∙ same-table demand (periodsRun way c demand sheet)
 
-  -- a re-cut that is accepted leaves the new table and the state in the list; one that is refused leaves the corridor
+  -- a re-cut or a join that is accepted leaves the new table and the state in the list; one that is refused leaves the corridor
+  change-leaves : (a : Answer) (new made list : List ℕ) → whenAccepted a (corridorOf new (whenAccepted a made list)) c ≡ whenAccepted a (corridorOf new made) c
+  change-leaves Accepted new made list = refl
+  change-leaves (Refused refusal) new made list = refl
+
   pub recut-leaves : {pieces new list left : List ℕ} {a : Answer} → RecutDone c pieces new list a left → whenAccepted a (corridorOf new left) c ≡ leaves way (recut pieces new list) c
   unfolding leaves
-  recut-leaves {pieces} {new} {list} done = rw (done .answered, done .leaves) (by (answer (recutChecks c pieces new list)))
-    where
-      by : (a : Answer) → whenAccepted a (corridorOf new (whenAccepted a (newState c pieces new) list)) c ≡ whenAccepted a (newCorridor c pieces new) c
-      by Accepted = refl
-      by (Refused refusal) = refl
+  recut-leaves {pieces} {new} {list} done =
+      rw (done .answered, done .leaves) (change-leaves (answer (recutChecks c pieces new list)) new (newState c pieces new) list)
+
+  pub join-leaves : {groups new list left : List ℕ} {a : Answer} → JoinDone c groups new list a left → whenAccepted a (corridorOf new left) c ≡ leaves way (join groups new list) c
+  unfolding leaves
+  join-leaves {groups} {new} {list} done =
+      rw (done .answered, done .leaves) (change-leaves (answer (joinChecks c groups new list)) new (joinedState c groups new) list)

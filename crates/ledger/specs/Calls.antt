@@ -1,4 +1,4 @@
--- Demand 3: a call, what it leaves, and its account, from the definitions that the promises of `period`, `period_run` and `recut` cite.
+-- Demand 3: a call, what it leaves, and its account, from the definitions that the promises of `period`, `period_run`, `recut` and `join` cite.
 use Prim.Native.Nat.{ℕ}
 use mathlib.Core.Path.{_≡_}
 use mathlib.Core.List.{List, [], _∷_}
@@ -11,6 +11,7 @@ use Rattle.period.specs.Sharing.{Sharing}
 use Rattle.period.specs.Period.{corridorAfter, periodChecks}
 use Rattle.period_run.specs.Run.{demandRow, corridorAfterPeriods, periodsRun}
 use Rattle.recut.specs.Recut.{newCorridor, recutChecks}
+use Rattle.join.specs.Join.{joinedCorridor, joinChecks}
 use Rattle.ledger.specs.Account.{Account, nothing, both, total, rowAccount}
 
 -- a table and a state that are accepted, numbers 1 to 5
@@ -25,6 +26,8 @@ pub data Call : Type 0 where
   run : List ℕ → List ℕ → Call
   -- a re-cut, with its piece counts, its new table and the list for its new state
   recut : List ℕ → List ℕ → List ℕ → Call
+  -- a join, with its group sizes, its new table and the list for its new state
+  join : List ℕ → List ℕ → List ℕ → Call
 
 module _ (way : Sharing) where
   -- what a call leaves
@@ -32,6 +35,7 @@ module _ (way : Sharing) where
   leaves (period demand sheet) c = whenAccepted (answer (periodChecks c demand sheet)) (corridorAfter way c demand) c
   leaves (run demand sheet) c = corridorAfterPeriods way c demand (periodsRun way c demand sheet)
   leaves (recut pieces new list) c = whenAccepted (answer (recutChecks c pieces new list)) (newCorridor c pieces new) c
+  leaves (join groups new list) c = whenAccepted (answer (joinChecks c groups new list)) (joinedCorridor c groups new) c
 
   -- the account of a call: a refused period's is empty, and a run's is that of the periods it completes, each from the corridor that the last
   -- one left
@@ -40,6 +44,7 @@ module _ (way : Sharing) where
   accountOf (run demand sheet) c =
       total (periodsRun way c demand sheet) λ k. rowAccount way (corridorAfterPeriods way c demand k) (demandRow (cellsOf c) demand k)
   accountOf (recut pieces new list) c = nothing
+  accountOf (join groups new list) c = nothing
 
   -- calls in a row, each taking what the last one left, and their account
   unfoldable pub leavesAll : List Call → Corridor → Corridor

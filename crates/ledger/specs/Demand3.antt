@@ -1,5 +1,5 @@
 -- Demand 3, as one statement, for a way of sharing room: from an accepted table and state, each call taking what the last one left, after any
--- list of periods, runs and re-cuts, refused ones among them.
+-- list of periods, runs, re-cuts and joins, refused ones among them.
 use Prim.Native.Nat.{ℕ, _+_, _≤_, _<_}
 use mathlib.Core.Path.{_≡_}
 use mathlib.Core.List.{List}

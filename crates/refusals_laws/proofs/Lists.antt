@@ -1,6 +1,6 @@
 -- Each list of checks that a public promise is made of gives the lowest number that applies, at its smallest place; where one number is asked of two
 -- tables in turn, the lowest number. Assumes nothing.
-use Prim.Native.Nat.{ℕ}
+use Prim.Native.Nat.{ℕ, _≤_}
 use mathlib.Core.Path.{_≡_, refl}
 use mathlib.Core.Bool.{Bool, _&&_}
 use mathlib.Core.List.{List, [], _∷_, _++_}
@@ -9,8 +9,10 @@ use lib.Dec.{eqb}
 use lib.Ieee.{Float}
 use lib.ListN.{length}
 use Rattle.refusals.specs.declared.Refusal.{Refusal}
+use Rattle.refusals.specs.declared.Refusal.the-variants.{Pieces, Groups}
 use Rattle.refusals.specs.declared.Answer.the-variants.{Refused}
 use Rattle.refusals.specs.Checks.{Check, lengths, answer}
+use Rattle.layout.specs.Layout.{cells}
 use Rattle.layout.specs.Sheet.{sheetLength}
 use Rattle.layout.specs.Corridor.{Corridor, cellsOf}
 use Rattle.accept_tables.specs.Tables.{rowsInRange, roomsShared, rampsOnce, tableChecks, bothTablesChecks}
@@ -18,7 +20,10 @@ use Rattle.accept_rows.specs.Acceptance.{stateLengthsFit, rowLengthsFit, stateI
 use Rattle.period.specs.Period.{periodChecks}
 use Rattle.period_run.specs.Run.{runListsFit, runChecks}
 use Rattle.program_steps.specs.Demand.{followListsFit, followChecks}
-use Rattle.recut.specs.Recut.{countsSum, cellsAreCut, recutChecks}
+use Rattle.recut_checks.specs.Pieces.{piecesNumber}
+use Rattle.recut_checks.specs.Change.{changeChecks}
+use Rattle.recut.specs.Recut.{recutChecks}
+use Rattle.join.specs.Join.{joinChecks}
 use Rattle.calibrate_rows.specs.declared.Diagram.{Diagram}
 use Rattle.calibrate_rows.specs.declared.RowValues.{RowValues}
 use Rattle.calibrate_rows.specs.Rows.{settingUsable, valuesFit, makingChecks}
@@ -55,11 +60,11 @@ nine settings flow occupancy = record { numbered = λ p. refl; ascends = λ p q 
 ten : (settings : Settings) (flow occupancy : List Float) → Numbered 10 (diagramFits settings flow occupancy)
 ten settings flow occupancy = record { numbered = λ p. refl; ascends = λ p q h. omega arith }
 
-eight : (old pieces new : List ℕ) → Numbered 8 (cellsAreCut old pieces new)
-eight old pieces new = record { numbered = λ p. refl; ascends = λ p q h. omega arith }
+eight : (whole pieces parts : List ℕ) → Numbered 8 (piecesNumber Pieces whole pieces parts)
+eight whole pieces parts = record { numbered = λ p. refl; ascends = λ p q h. h }
 
-eight-in-all : (old pieces new : List ℕ) → Numbered 8 (countsSum old pieces new)
-eight-in-all old pieces new = record { numbered = λ p. refl; ascends = λ p q h. omega arith }
+fourteen : (whole pieces parts : List ℕ) → Numbered 14 (piecesNumber Groups whole pieces parts)
+fourteen whole pieces parts = record { numbered = λ p. refl; ascends = λ p q h. h }
 
 nine-alone : (period : ℕ) (cell : Float) → Numbered 9 (settingUsable period cell)
 nine-alone period cell = record { numbered = λ p. refl; ascends = λ p q h. h }
@@ -154,11 +159,17 @@ module _ (c : Corridor) {refusal : Refusal} where
     pub period-lowest : (sheet : List ℕ) → answer (periodChecks c demand sheet) ≡ Refused refusal → SmallestPlace (periodChecks c demand sheet) refusal
     period-lowest sheet = one-to-seven (rowLengthsFit c demand && eqb (length sheet) (sheetLength (cellsOf c))) c demand
 
-  -- of two tables in turn, and of 8 in all and by cells, the number is the lowest
+  -- of two tables in turn the number is the lowest, and a last one comes after 5
+  change-lowest : (counts : List ℕ) (many : ℕ) (new list : List ℕ) {last : Check} {number : ℕ} → 5 ≤ number → Numbered number last → answer (changeChecks c counts many new list ++ (last ∷ [])) ≡ Refused refusal → LowestNumber (changeChecks c counts many new list ++ (last ∷ [])) refusal
+  change-lowest counts many new list {last} {number} after numbered =
+      lowest-number 1 (1 ∷ 2 ∷ 2 ∷ 3 ∷ 3 ∷ 4 ∷ 4 ∷ 5 ∷ number ∷ []) (changeChecks c counts many new list ++ (last ∷ []))
+      (omega arith, (one _, (omega arith, (two (c .table), (omega arith, (two new, (omega arith, (three (c .table), (omega arith, (three new, (omega arith, (four (c .table), (omega arith, (four new, (omega arith, (five c, (after, (numbered, tt))))))))))))))))))
+
   pub recut-lowest : (pieces new list : List ℕ) → answer (recutChecks c pieces new list) ≡ Refused refusal → LowestNumber (recutChecks c pieces new list) refusal
-  recut-lowest pieces new list =
-      lowest-number 1 (1 ∷ 2 ∷ 2 ∷ 3 ∷ 3 ∷ 4 ∷ 4 ∷ 5 ∷ 8 ∷ 8 ∷ []) (recutChecks c pieces new list)
-      (omega arith, (one _, (omega arith, (two (c .table), (omega arith, (two new, (omega arith, (three (c .table), (omega arith, (three new, (omega arith, (four (c .table), (omega arith, (four new, (omega arith, (five c, (omega arith, (eight-in-all (c .table) pieces new, (omega arith, (eight (c .table) pieces new, tt))))))))))))))))))))
+  recut-lowest pieces new list = change-lowest pieces (cellsOf c) new list (omega arith) (eight (c .table) pieces new)
+
+  pub join-lowest : (groups new list : List ℕ) → answer (joinChecks c groups new list) ≡ Refused refusal → LowestNumber (joinChecks c groups new list) refusal
+  join-lowest groups new list = change-lowest groups (cells new) new list (omega arith) (fourteen new groups (c .table))
 
 module _ {refusal : Refusal} where
   pub fit-lowest : (settings : Settings) (flow occupancy : List Float) → answer (fitChecks settings flow occupancy) ≡ Refused refusal → SmallestPlace (fitChecks settings flow occupancy) refusal
