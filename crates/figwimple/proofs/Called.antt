@@ -11,7 +11,7 @@ use lib.Dec.{eqb}
 use lib.Ieee.{Float}
 use lib.ListN.{length, set}
 use Rattle.refusals.specs.declared.Refusal.{Refusal}
-use Rattle.refusals.specs.declared.Refusal.the-variants.{Length, TableNumber, RoomShares, RampAgain, StateNumber, Demand, QueueOver, Pieces, Sample, Fit, RowValue, Record}
+use Rattle.refusals.specs.declared.Refusal.the-variants.{Length, TableNumber, RoomShares, RampAgain, StateNumber, Demand, QueueOver, Pieces, Sample, Fit, RowValue, Record, Groups}
 use Rattle.refusals.specs.declared.Answer.{Answer}
 use Rattle.refusals.specs.declared.Answer.the-variants.{Accepted, Refused}
 use Rattle.refusals.specs.Refusals.{numberOf, placeOf}
@@ -24,6 +24,7 @@ use Rattle.period.specs.Period.{PeriodDone}
 use Rattle.period_run.specs.declared.Ran.{Ran}
 use Rattle.period_run.specs.Run.{RunDone}
 use Rattle.recut.specs.Recut.{RecutDone}
+use Rattle.join.specs.Join.{JoinDone}
 use Rattle.calibrate_fit.specs.declared.Settings.{Settings}
 use Rattle.calibrate_rows.specs.declared.Diagram.{Diagram}
 use Rattle.calibrate_rows.specs.declared.RowValues.{RowValues}
@@ -34,13 +35,13 @@ use Rattle.calibrate_rows.specs.RowNumbers.{rowNumbers}
 use Rattle.calibrate_fit.specs.Calibration.{calibrationChecks, fittedDiagram, fittedValues, calibratedAs, calibrationOf}
 use Rattle.figwimple.specs.Words.{PLACES, ANSWERS, wordOf}
 use Rattle.figwimple.specs.Private.{COUNTS, Placed}
-use Rattle.figwimple.specs.Calls.{PeriodCalled, RunCalled, RecutCalled, fiveOf, fourOf, resultsFit, CalibrateCalled}
+use Rattle.figwimple.specs.Calls.{PeriodCalled, RunCalled, RecutCalled, JoinCalled, fiveOf, fourOf, resultsFit, CalibrateCalled}
 use Rattle.figwimple.proofs.Places.{calibration-placed}
 
 -- Words
 
--- from 1 to 12
-pub numbers : (refusal : Refusal) → Between 1 12 (numberOf refusal)
+-- from 1 to 14
+pub numbers : (refusal : Refusal) → Between 1 14 (numberOf refusal)
 numbers Length = record { least = omega arith; most = omega arith }
 numbers (TableNumber cell) = record { least = omega arith; most = omega arith }
 numbers (RoomShares cell) = record { least = omega arith; most = omega arith }
@@ -53,6 +54,7 @@ numbers (Sample sample) = record { least = omega arith; most = omega arith }
 numbers Fit = record { least = omega arith; most = omega arith }
 numbers (RowValue value) = record { least = omega arith; most = omega arith }
 numbers (Record place) = record { least = omega arith; most = omega arith }
+numbers (Groups cell) = record { least = omega arith; most = omega arith }
 
 module _ (count : ℕ) {answered : Answer} {refusal : Refusal} {number place : ℕ} where
   pub word-fits : count < COUNTS → Placed answered → answered ≡ Refused refusal → number ≡ numberOf refusal → place ≡ placeOf refusal → Fits w64 (count * ANSWERS + number * PLACES + place)
@@ -94,7 +96,7 @@ word-tells count (Refused refusal) placed =
 pub fits-as : {a b : Answer} → a ≡ b → Placed b → Placed a
 fits-as e fits = rw e fits
 
--- Periods, runs and re-cuts
+-- Periods, runs, re-cuts and joins
 
 module _ {way : Sharing} {c : Corridor} {demand sheet stateLeft sheetLeft : List ℕ} {word : ℕ} where
   pub period-called : {a : Answer} → PeriodDone way c demand sheet a stateLeft sheetLeft → word ≡ wordOf 0 a → PeriodCalled way c demand sheet word stateLeft sheetLeft
@@ -114,6 +116,10 @@ module _ {way : Sharing} {c : Corridor} {demand sheet stateLeft sheetLeft : List
 
 pub recut-called : {old : Corridor} {pieces new list left : List ℕ} {a : Answer} {word : ℕ} → RecutDone old pieces new list a left → word ≡ wordOf 0 a → RecutCalled old pieces new list word left
 recut-called done e =
+    record { answered = e ∙ ap (wordOf 0) (done .answered); leaves = record { answered = refl; leaves = done .leaves } }
+
+pub join-called : {old : Corridor} {groups new list left : List ℕ} {a : Answer} {word : ℕ} → JoinDone old groups new list a left → word ≡ wordOf 0 a → JoinCalled old groups new list word left
+join-called done e =
     record { answered = e ∙ ap (wordOf 0) (done .answered); leaves = record { answered = refl; leaves = done .leaves } }
 
 -- Calibrations

@@ -10,6 +10,7 @@ use lib.Ieee.{Float}
 use lib.ListN.{length}
 use Rattle.whole.specs.Search.{pick}
 use Rattle.whole.proofs.Search.{is-first}
+use Rattle.refusals.specs.declared.Refusal.the-variants.{Pieces, Groups}
 use Rattle.refusals.specs.declared.Answer.{Answer}
 use Rattle.refusals.specs.declared.Answer.the-variants.{Accepted, Refused}
 use Rattle.layout.specs.Layout.{cells}
@@ -25,7 +26,10 @@ use Rattle.layout.specs.Sheet.{sheetLength}
 use Rattle.period_run.specs.Run.{rows, demandRow, corridorAfterPeriods, runListsFit, runChecks, isAccepted, rowAnswer, completed, rowsAnswer, periodsRun, runAnswer}
 use Rattle.period.specs.Sharing.{Sharing}
 use Rattle.period_run.proofs.Rows.{lists-fit, table-stays}
-use Rattle.recut.specs.Recut.{recutListsFit, piecesNumbers, recutChecks}
+use Rattle.recut_checks.specs.Pieces.{piecesNumber}
+use Rattle.recut_checks.specs.Change.{changeListsFit, changeChecks}
+use Rattle.recut.specs.Recut.{recutChecks}
+use Rattle.join.specs.Join.{joinChecks}
 use Rattle.calibrate_rows.specs.Rows.{valuesFit}
 use Rattle.calibrate_fit.specs.declared.Settings.{Settings}
 use Rattle.calibrate_fit.specs.Calibration.{lengthsFit, samplesUsable, diagramFits, fittedValues, calibrationChecks}
@@ -139,15 +143,26 @@ module _ (way : Sharing) (c : Corridor) (demand sheet : List ℕ) where
       by Accepted e = omega (arith, checked-fit e .1, is-first (rows (cellsOf c) demand) (λ k. isAccepted (rowAnswer way c demand k)) .reaches)
       by (Refused refusal) e = omega arith
 
--- A re-cut and a calibration
+-- A re-cut and a join, by their last check
+
+module _ (old : Corridor) (counts : List ℕ) (many : ℕ) (new list : List ℕ) (last : Check) where
+  change-placed : (cellsOf old ≤ 512 → cells new ≤ 512 → Each (last ∷ [])) → Placed (answer (changeChecks old counts many new list ++ (last ∷ [])))
+  change-placed each =
+      behind-lengths (tableLengthFits (old .table) && tableLengthFits new && changeListsFit old counts many new list) (bothTables (old .table) new ++ (stateInRange old ∷ last ∷ []))
+      λ e. let tables = both-hold (tableLengthFits (old .table)) (tableLengthFits new) (both-hold _ (changeListsFit old counts many new list) e .0) in
+      let few = cells-fit (old .table) (tables .0) .most in
+      let fewNew = cells-fit new (tables .1) .most in
+      (λ i h. omega arith, (λ i h. omega arith, (λ i h. omega arith, (λ i h. omega arith, (λ i h. omega arith, (λ i h. omega arith, (λ i h. omega arith, each few fewNew)))))))
 
 pub recut-placed : (old : Corridor) (pieces new list : List ℕ) → Placed (answer (recutChecks old pieces new list))
 recut-placed old pieces new list =
-    behind-lengths (tableLengthFits (old .table) && tableLengthFits new && recutListsFit old pieces new list) (bothTables (old .table) new ++ (stateInRange old ∷ piecesNumbers (old .table) pieces new))
-    λ e. let tables = both-hold (tableLengthFits (old .table)) (tableLengthFits new) (both-hold _ (recutListsFit old pieces new list) e .0) in
-    let few = cells-fit (old .table) (tables .0) .most in
-    let fewNew = cells-fit new (tables .1) .most in
-    (λ i h. omega arith, (λ i h. omega arith, (λ i h. omega arith, (λ i h. omega arith, (λ i h. omega arith, (λ i h. omega arith, (λ i h. omega arith, (λ i h. omega arith, (λ i h. omega arith, tt)))))))))
+    change-placed old pieces (cellsOf old) new list (piecesNumber Pieces (old .table) pieces new) λ few fewNew. (λ p h. omega arith, tt)
+
+pub join-placed : (old : Corridor) (groups new list : List ℕ) → Placed (answer (joinChecks old groups new list))
+join-placed old groups new list =
+    change-placed old groups (cells new) new list (piecesNumber Groups new groups (old .table)) λ few fewNew. (λ p h. omega arith, tt)
+
+-- A calibration
 
 pub calibration-placed : (settings : Settings) (flow occupancy : List Float) → Placed (answer (calibrationChecks settings flow occupancy))
 calibration-placed settings flow occupancy =

@@ -16,6 +16,8 @@ use Rattle.figwimple.proofs.figwimple_run.Kinds as run-kinds
 use Rattle.figwimple.proofs.figwimple_run.Reads as run
 use Rattle.figwimple.proofs.figwimple_recut.Kinds as recut-kinds
 use Rattle.figwimple.proofs.figwimple_recut.Reads as recut
+use Rattle.figwimple.proofs.figwimple_join.Kinds as join-kinds
+use Rattle.figwimple.proofs.figwimple_join.Reads as join
 use Rattle.figwimple.proofs.figwimple_calibrate.Kinds as calibrate-kinds
 use Rattle.figwimple.proofs.figwimple_calibrate.Reads as calibrate
 
@@ -41,6 +43,10 @@ run-settles κs a y z e f p q =
 -- the new state
 pub recut-settles : SettlesLists _ recut-kinds.ps recut-kinds.r (List ℕ) (λ κs e. now (e .1 .1 .1 .1 .0)) recut.Learnt
 recut-settles κs a y z e f p q = (settled (p .answered) (q .answered), settled (p .leaves .leaves) (q .leaves .leaves))
+
+-- the new state
+pub join-settles : SettlesLists _ join-kinds.ps join-kinds.r (List ℕ) (λ κs e. now (e .1 .1 .1 .1 .0)) join.Learnt
+join-settles κs a y z e f p q = (settled (p .answered) (q .answered), settled (p .leaves .leaves) (q .leaves .leaves))
 
 -- the diagram's five doubles and the row's four numbers
 pub calibrate-settles : SettlesLists _ calibrate-kinds.ps calibrate-kinds.r (List Float × List ℕ) (λ κs e. (now (e .1 .1 .1 .1 .1 .1 .1 .1 .0), now (e .1 .1 .1 .1 .1 .1 .1 .1 .1 .0))) calibrate.Learnt

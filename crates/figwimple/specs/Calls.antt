@@ -16,6 +16,7 @@ use Rattle.period.specs.Sharing.{Sharing}
 use Rattle.period.specs.Period.{periodChecks, PeriodDone}
 use Rattle.period_run.specs.Run.{periodsRun, runAnswer, RunDone}
 use Rattle.recut.specs.Recut.{recutChecks, RecutDone}
+use Rattle.join.specs.Join.{joinChecks, JoinDone}
 use Rattle.calibrate_fit.specs.declared.Settings.{Settings}
 use Rattle.calibrate_rows.specs.declared.Diagram.{Diagram}
 use Rattle.calibrate_rows.specs.declared.RowNumbers.{RowNumbers}
@@ -34,6 +35,10 @@ pub record RunCalled (way : Sharing) (c : Corridor) (demand sheet : List ℕ) (w
 pub record RecutCalled (old : Corridor) (pieces new list : List ℕ) (word : ℕ) (left : List ℕ) : Type 0 where
   pub answered : word ≡ wordOf 0 (answer (recutChecks old pieces new list))
   pub leaves : RecutDone old pieces new list (answer (recutChecks old pieces new list)) left
+
+pub record JoinCalled (old : Corridor) (groups new list : List ℕ) (word : ℕ) (left : List ℕ) : Type 0 where
+  pub answered : word ≡ wordOf 0 (answer (joinChecks old groups new list))
+  pub leaves : JoinDone old groups new list (answer (joinChecks old groups new list)) left
 
 abbrev pub settingsOf : Float → ℕ → ℕ → Float → ℕ → ℕ → Settings
 settingsOf g lanes t l start end = record { g = g; lanes = lanes; period = t; cell = l; start = start; end = end }

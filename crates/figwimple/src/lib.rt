@@ -10,7 +10,7 @@ ghost use Rattle.period.specs.Sharing.{asymmetric};
 ghost use Rattle.accept_rows.specs.Acceptance.{stateChecks, rowChecks};
 ghost use Rattle.figwimple.specs.Words.{wordOf};
 ghost use Rattle.figwimple.specs.Private.{COUNTS, Placed};
-ghost use Rattle.figwimple.specs.Calls.{PeriodCalled, RunCalled, RecutCalled, settingsOf, fiveOf, fourOf, resultsFit, CalibrateCalled};
+ghost use Rattle.figwimple.specs.Calls.{PeriodCalled, RunCalled, RecutCalled, JoinCalled, settingsOf, fiveOf, fourOf, resultsFit, CalibrateCalled};
 use calibrate_fit::Calibration;
 use calibrate_fit::Settings;
 use calibrate_rows::Diagram;
@@ -99,6 +99,20 @@ pub extern "C" fn figwimple_recut(
     ensures { λ r. ⌜ RecutCalled (corridorOf (now (old .entry)) (now (state .entry))) (now (pieces .entry)) (now (new .entry)) (now (list .entry)) r (now (list .exit)) ⌝ }
 {
     word(0, recut::recut(old, state, pieces, new, list))
+}
+
+// The join of a table and a state into a new table: numbers 1 to 5 and 14. The new state goes to a list of its own.
+#[no_mangle]
+pub extern "C" fn figwimple_join(
+    old: &[u32],
+    state: &[u32],
+    groups: &[u32],
+    new: &[u32],
+    list: &mut [u32],
+) -> u64
+    ensures { λ r. ⌜ JoinCalled (corridorOf (now (old .entry)) (now (state .entry))) (now (groups .entry)) (now (new .entry)) (now (list .entry)) r (now (list .exit)) ⌝ }
+{
+    word(0, join::join(old, state, groups, new, list))
 }
 
 // Stores the five doubles of a diagram.
