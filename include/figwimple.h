@@ -27,9 +27,11 @@
       10  the free stretch is empty, a sum of squares, speed or wave is computed as zero,
           or no sample is above critical                                                         place 0
       11  a row value is not at least 1 and at most its limit                                    1 to 4 for v, w, F, J
+      14  group sizes don't sum to the old N (place 0), a size is 0, or a group's cells
+          break the join rules                                                                   new cell
 
-   The lowest number that applies is given, at its smallest place; in a re-cut, of one number, the old table's come before the
-   new one's. A refusal leaves every list as it came, but for a run refused at a later row.
+   The lowest number that applies is given, at its smallest place; in a re-cut and a join, of one number, the old table's come before
+   the new one's. A refusal leaves every list as it came, but for a run refused at a later row.
 
    LISTS. A list is a pointer and its length in elements. With N cells:
 
@@ -78,6 +80,12 @@ uint64_t figwimple_run(const uint32_t *table, size_t table_length, uint32_t *sta
 uint64_t figwimple_recut(const uint32_t *old_table, size_t old_table_length, const uint32_t *old_state, size_t old_state_length,
                          const uint32_t *pieces, size_t pieces_length, const uint32_t *new_table, size_t new_table_length,
                          uint32_t *new_state, size_t new_state_length);
+
+/* Joins the cells of a table, group by group: numbers 1 to 5 and 14. `groups` has one size for each new cell, and the new table a row
+   for each group. Accepted, `new_state` has the vehicles and queues under the new table. */
+uint64_t figwimple_join(const uint32_t *old_table, size_t old_table_length, const uint32_t *old_state, size_t old_state_length,
+                        const uint32_t *groups, size_t groups_length, const uint32_t *new_table, size_t new_table_length,
+                        uint32_t *new_state, size_t new_state_length);
 
 /* Fits a triangular diagram to detector samples and makes a cell row of it: numbers 1, 9, 10 and 11. `flow` (veh/h) and `occupancy`
    (0 to 1) are equally long, at most 65,536 samples. The settings: g, the effective vehicle length in miles; the lanes; the period t

@@ -1,7 +1,7 @@
 -- Rules, "Join": the new state, and what is refused. The old cells of a group are the pieces of a new cell, and a group size their count.
 use Prim.Native.Nat.{ℕ, _+_}
 use mathlib.Core.Path.{_≡_}
-use mathlib.Core.List.{List}
+use mathlib.Core.List.{List, [], _∷_, _++_}
 use Rattle.whole.specs.Sums.{sum}
 use Rattle.refusals.specs.declared.Answer.{Answer}
 use Rattle.refusals.specs.declared.Refusal.the-variants.{Groups}
@@ -9,8 +9,8 @@ use Rattle.refusals.specs.Checks.{Check, answer, whenAccepted}
 use Rattle.layout.specs.declared.Cell.{Cell}
 use Rattle.layout.specs.Layout.{cells, stateOf}
 use Rattle.layout.specs.Corridor.{Corridor, corridorOf, entryQueueOf, countOf, queueOf}
-use Rattle.recut_checks.specs.Pieces.{pieceCount, firstPiece}
-use Rattle.recut_checks.specs.Change.{withPieces}
+use Rattle.recut_checks.specs.Pieces.{pieceCount, firstPiece, piecesNumber}
+use Rattle.recut_checks.specs.Change.{changeChecks}
 
 -- the vehicles of count old cells from the one of index first
 abbrev pub groupVehicles : Corridor → ℕ → ℕ → ℕ
@@ -34,7 +34,8 @@ module _ (old : Corridor) (groups : List ℕ) where
 
 -- 1 to 5, with a group size for each new cell; then 14, where the old cells are not the pieces of the new ones
 abbrev pub joinChecks : Corridor → List ℕ → List ℕ → List ℕ → List Check
-joinChecks old groups new list = withPieces Groups old groups new list new (old .table)
+joinChecks old groups new list =
+    changeChecks old groups (cells new) new list ++ (piecesNumber Groups new groups (old .table) ∷ [])
 
 -- what a join answers and leaves
 pub record JoinDone (old : Corridor) (groups new list : List ℕ) (a : Answer) (left : List ℕ) : Type 0 where

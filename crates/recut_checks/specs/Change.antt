@@ -5,13 +5,11 @@ use mathlib.Core.Bool.{Bool, _&&_}
 use mathlib.Core.List.{List, [], _∷_, _++_}
 use lib.Dec.{eqb}
 use lib.ListN.{length}
-use Rattle.refusals.specs.declared.Refusal.{Refusal}
 use Rattle.refusals.specs.Checks.{Check, lengths}
 use Rattle.layout.specs.Layout.{cells, stateLength}
 use Rattle.layout.specs.Corridor.{Corridor, cellsOf}
 use Rattle.accept_tables.specs.Tables.{tableLengthFits, bothTables}
 use Rattle.accept_rows.specs.Acceptance.{stateInRange}
-use Rattle.recut_checks.specs.Pieces.{piecesNumber}
 
 -- 1: every list has its length
 abbrev pub changeListsFit : Corridor → List ℕ → ℕ → List ℕ → List ℕ → Bool
@@ -22,8 +20,3 @@ changeListsFit old counts many new list =
 abbrev pub changeChecks : Corridor → List ℕ → ℕ → List ℕ → List ℕ → List Check
 changeChecks old counts many new list =
     lengths (tableLengthFits (old .table) && tableLengthFits new && changeListsFit old counts many new list) ∷ bothTables (old .table) new ++ (stateInRange old ∷ [])
-
--- then what is asked of the pieces, with a count for each whole cell, by the refusal that is given
-abbrev pub withPieces : (ℕ → Refusal) → Corridor → List ℕ → List ℕ → List ℕ → List ℕ → List ℕ → List Check
-withPieces give old pieces new list whole parts =
-    changeChecks old pieces (cells whole) new list ++ (piecesNumber give whole pieces parts ∷ [])

@@ -1,5 +1,6 @@
-// Cuts a cell with an on-ramp and an off-ramp into three under a running corridor, and shows that nothing is lost: the shares sum to the
-// old count, the queue stands on the first piece and the off-ramp on the last, and the periods go on.
+// Cuts a cell with an on-ramp and an off-ramp into three under a running corridor, and joins the three again later, and shows that nothing
+// is lost: the vehicles and the ramps along the road are as before, the queue stands on the first piece and the off-ramp on the last, and
+// the periods go on.
 use layout::cells;
 use layout::ramp_at;
 use layout::ramp_positions;
@@ -59,14 +60,17 @@ fn show_state(word: &[u8], n: usize, state: &[u32]) {
     show::vehicles(b", vehicles ", n, state);
 }
 
-// Prints the ramp numbers along the road, the on-ramp and the off-ramp of each cell; 0 is no ramp.
+// Prints the ramp numbers along the road; 0 is no ramp.
 fn show_ramps(table: &[u32]) {
     io::write_all(1, b"ramps along the road:");
     let n = ramp_positions(cells(table));
     let mut k: usize = 0;
     while k < n {
-        io::write_all(1, b" ");
-        io::print_decimal(1, ramp_at(table, k) as u64);
+        let ramp = ramp_at(table, k);
+        if ramp != 0 {
+            io::write_all(1, b" ");
+            io::print_decimal(1, ramp as u64);
+        }
         k += 1;
     }
     io::write_all(1, b"\n");
@@ -99,6 +103,18 @@ fn show_shares(n: u32, whole: u32, new: &[u32]) {
     }
 }
 
+// Joins the three cells again under the running corridor, and goes on.
+fn join_again(cut: &[u32]) {
+    let mut joined = [0u32; 3];
+    let mut sheet = [0u32; 5];
+    io::write_all(1, b"joined again: ");
+    show::answer(join::join(&NEW, cut, &[3], &OLD, &mut joined));
+    show_state(b"sums: Q n q", 1, &joined);
+    show_ramps(&OLD);
+    ten_periods(&OLD, &mut joined, &[800, 600, 0], &mut sheet);
+    show_state(b"after ten more: Q n q", 1, &joined);
+}
+
 fn main() {
     let mut state = [0u32, 6_001, 300];
     let mut sheet = [0u32; 5];
@@ -122,4 +138,5 @@ fn main() {
     show_state(b"after ten more: Q n n n q q q", 3, &cut);
     show::list(b"sheet (entry, f, s, r, modes):", &new_sheet);
     io::write_all(1, b"\n");
+    join_again(&cut);
 }

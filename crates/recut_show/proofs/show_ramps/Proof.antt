@@ -8,10 +8,10 @@ use Rattle.recut_show.proofs.show_ramps.Statement.{statement}
 use Rattle.recut_show.proofs.show_ramps.Tie as tie
 
 abbrev Inv-loop : tie.InvT-loop
-Inv-loop table n k₀ t5 t6 k = n ≡ rampPositions (cells table)
+Inv-loop table n k₀ t6 t7 k = n ≡ rampPositions (cells table)
 
 abbrev μ-loop : tie.MeasureT-loop
-μ-loop table n k₀ t5 t6 k = n - k
+μ-loop table n k₀ t6 t7 k = n - k
 
 pub show-ramps-spec : {M : Type 1} → statement M
 show-ramps-spec =
@@ -22,10 +22,10 @@ show-ramps-spec =
     (λ c. search needs)
     (λ c κs. search needs)
     (λ c κs. search needs)
-    (λ c. search needs)
-    (λ c. omega arith)
+    (λ c κs. omega arith)
     (λ c. search needs)
     (λ c κs. search needs)
+    (λ c. search needs)
     (λ c κs. search needs)
     (λ c. search needs)
     (λ c κs. search needs)
