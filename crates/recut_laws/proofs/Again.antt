@@ -6,7 +6,6 @@ use native.Mathlib.Nat.{add-zero}
 use native.Mathlib.Numerals.{add-one}
 use native.Mathlib.Omega.{arith}
 use lib.ListN.{length}
-use Rattle.whole.proofs.Sums.{sum-grows}
 use Rattle.refusals.specs.declared.Answer.{Answer}
 use Rattle.refusals.specs.declared.Answer.the-variants.{Accepted}
 use Rattle.refusals.specs.declared.Refusal.the-variants.{Pieces, Groups}
@@ -28,7 +27,7 @@ use Rattle.recut.proofs.Facts.{CutFits, the-piece}
 use Rattle.join.specs.Join.{groupVehicles, joinedState, joinChecks, JoinDone}
 use Rattle.join.proofs.Facts.{JoinFits}
 use Rattle.recut_laws.specs.Joins.{KeepsCells}
-use Rattle.recut_laws.proofs.Sums.{one-place}
+use Rattle.recut_laws.proofs.Sums.{place-inside, one-place}
 use Rattle.recut_laws.proofs.Kept.{first-queue, new-entry, new-length, shared, shared-none, shared-more, shared-all, new-state-is-accepted}
 use Rattle.recut_laws.proofs.Holds.{what-fits-is-accepted, is-joined}
 
@@ -94,7 +93,7 @@ module _ (old : Corridor) (pieces new : List ℕ) (known : CutFits old pieces ne
     place = firstPiece pieces i + k
 
     inside : firstPiece pieces i + k < cells new
-    inside = omega (arith, known .pieced .sums, sum-grows (suc i) (cellsOf old) (pieceCount pieces) h)
+    inside = place-inside (pieceCount pieces) (known .pieced .sums) h below
 
     is-piece : (i ≡ piece place .cell) × (k ≡ piece place .number)
     is-piece =
@@ -102,7 +101,8 @@ module _ (old : Corridor) (pieces new : List ℕ) (known : CutFits old pieces ne
         one-place (pieceCount pieces) (on .at) below (on .number-is)
 
   -- a cell's first pieces have the vehicles that are shared out to them
-  adds-up : (i : ℕ) → i < cellsOf old → (k : ℕ) → k ≤ pieceCount pieces i → groupVehicles cut (firstPiece pieces i) k ≡ shared old pieces new known i k
+  adds-up : (i : ℕ) → i < cellsOf old → (k : ℕ) → k ≤ pieceCount pieces i
+      → groupVehicles cut (firstPiece pieces i) k ≡ shared old pieces new known i k
   adds-up i h zero below = sym (shared-none old pieces new known i)
   adds-up i h (suc k) below =
       let is = is-piece i k h below in

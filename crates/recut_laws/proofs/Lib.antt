@@ -6,3 +6,4 @@ pub mod Kept
 pub mod Joined
 pub mod Holds
 pub mod Again
+pub mod Twice

@@ -18,11 +18,17 @@ sum-in-groups size f a zero = refl
 sum-in-groups size f a (suc n) =
     let before = sum n (λ g. size (a + g)) in
     let last = size (a + n) in
-    let same = sum-of-equal-terms last (λ k. f (sum (a + n) size + k)) (λ k. f (sum a size + (before + k))) (λ k h. ap f (omega (arith, sum-append a n size))) in
+    let shifted : ℕ → ℕ = λ k. f (sum a size + (before + k)) in
+    let same = sum-of-equal-terms last (λ k. f (sum (a + n) size + k)) shifted (λ k h. ap f (omega (arith, sum-append a n size))) in
     omega (arith, sum-in-groups size f a n, sum-append before last (λ m. f (sum a size + m)), same)
 
+-- a place in a group lies before the end of the last one
+pub place-inside : (size : ℕ → ℕ) {n total i k : ℕ} → sum n size ≡ total → i < n → k < size i → sum i size + k < total
+place-inside size {n} {total} {i} all h below = omega (arith, all, below, sum-grows (suc i) n size h)
+
 -- an index stands in one group, at one place
-pub one-place : (size : ℕ → ℕ) {i k i′ k′ : ℕ} → sum i size + k ≡ sum i′ size + k′ → k < size i → k′ < size i′ → (i ≡ i′) × (k ≡ k′)
+pub one-place : (size : ℕ → ℕ) {i k i′ k′ : ℕ} → sum i size + k ≡ sum i′ size + k′ → k < size i → k′ < size i′
+    → (i ≡ i′) × (k ≡ k′)
 one-place size {i} {k} {i′} {k′} e h h′ = by (decLt i i′) (decLt i′ i)
   where
     by : Dec (i < i′) → Dec (i′ < i) → (i ≡ i′) × (k ≡ k′)
