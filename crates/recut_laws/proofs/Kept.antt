@@ -52,7 +52,7 @@ module _ (old : Corridor) (pieces new : List ℕ) (known : CutFits old pieces ne
     unfolding pieceCell
     new-queue = state-queue (cells new) (entryQueueOf old) (newCell old pieces new) j h
 
-    first-queue : piece j .number ≡ 0 → queueOf cut j ≡ queueOf old (piece j .cell)
+    pub first-queue : piece j .number ≡ 0 → queueOf cut j ≡ queueOf old (piece j .cell)
     first-queue e = new-queue ∙ rw (eq-eqb (piece j .number) 0 e)
 
     other-queue : (piece j .number ≡ 0 → ⊥) → queueOf cut j ≡ 0
@@ -65,21 +65,21 @@ module _ (old : Corridor) (pieces new : List ℕ) (known : CutFits old pieces ne
   new-length = state-length (cells new) (entryQueueOf old) (newCell old pieces new)
 
   -- the vehicles of a cell's first k pieces
-  shared : ℕ → ℕ → ℕ
+  pub shared : ℕ → ℕ → ℕ
   shared i k = countOf old i * jamBefore new (firstPiece pieces i) k / rowOf old i .jam
 
-  shared-more : (j : ℕ) → j < cells new → shared (piece j .cell) (piece j .number) + countOf cut j ≡ shared (piece j .cell) (piece j .number + 1)
+  pub shared-more : (j : ℕ) → j < cells new → shared (piece j .cell) (piece j .number) + countOf cut j ≡ shared (piece j .cell) (piece j .number + 1)
   unfolding shared
   shared-more j h =
       let p = piece j in
       rw (← on j h .before-is, ← jams-with old pieces new known j h)
       (omega (arith, new-count j h, share-grows (countOf old (p .cell)) (rowOf old (p .cell) .jam) (p .before) (p .before + rowAt new j .jam) (cuttable old pieces new known j h .some) (omega arith)))
 
-  shared-none : (i : ℕ) → shared i 0 ≡ 0
+  pub shared-none : (i : ℕ) → shared i 0 ≡ 0
   unfolding shared jamBefore
   shared-none i = share-of-none (countOf old i) (rowOf old i .jam)
 
-  shared-all : (j : ℕ) → j < cells new → Last pieces (piece j) → shared (piece j .cell) (piece j .number + 1) ≡ countOf old (piece j .cell)
+  pub shared-all : (j : ℕ) → j < cells new → Last pieces (piece j) → shared (piece j .cell) (piece j .number + 1) ≡ countOf old (piece j .cell)
   unfolding shared
   shared-all j h e = rw (e, known .pieced .each (piece j .cell) (on j h .cell-is) .jams) (share-of-all _ _ (cuttable old pieces new known j h .some))
 

@@ -1,5 +1,9 @@
+pub mod Sums
 pub mod Shares
 pub mod Along
 pub mod Ramps
 pub mod Kept
 pub mod Joined
+pub mod Holds
+pub mod Again
+pub mod Twice

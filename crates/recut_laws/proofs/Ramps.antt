@@ -36,7 +36,7 @@ module _ (whole pieces parts : List ℕ) (known : Pieced whole pieces parts) whe
         let same : j ≡ firstPiece pieces (piece j .cell) = omega (arith, on .at) in
         (ap (λ k. rowAt parts k .on) same ∙ cell-of .on, ap (λ k. rowAt parts k .c) same ∙ cell-of .c)
 
-    last-has-off-ramp : Last pieces (piece j) → (rowAt parts j .off ≡ rowAt whole (piece j .cell) .off) × (rowAt parts j .b ≡ rowAt whole (piece j .cell) .b)
+    pub last-has-off-ramp : Last pieces (piece j) → (rowAt parts j .off ≡ rowAt whole (piece j .cell) .off) × (rowAt parts j .b ≡ rowAt whole (piece j .cell) .b)
     last-has-off-ramp e =
         let same : j ≡ firstPiece pieces (piece j .cell) + (pieceCount pieces (piece j .cell) - 1) = omega (arith, on .at) in
         (ap (λ k. rowAt parts k .off) same ∙ cell-of .off, ap (λ k. rowAt parts k .b) same ∙ cell-of .b)
@@ -48,7 +48,7 @@ module _ (whole pieces parts : List ℕ) (known : Pieced whole pieces parts) whe
     pub other-has-no-on-ramp : (pieceAt pieces parts j .number ≡ 0 → ⊥) → rowAt parts j .on ≡ 0
     other-has-no-on-ramp other = eqb-true _ _ (rw (ne-eqb (piece j .number) 0 other) at (no-others .0))
 
-    other-has-no-off-ramp : Followed pieces (piece j) → rowAt parts j .off ≡ 0
+    pub other-has-no-off-ramp : Followed pieces (piece j) → rowAt parts j .off ≡ 0
     other-has-no-off-ramp more =
         eqb-true _ _ (rw (ne-eqb (piece j .number + 1) (pieceCount pieces (piece j .cell)) (λ e. omega arith)) at (no-others .1))
 
