@@ -1,6 +1,6 @@
 -- What a re-cut keeps. Assumes nothing.
 use Prim.Native.Nat.{ℕ, zero, suc, _+_, _*_, _/_, _≤_, _<_, zero-le}
-use mathlib.Core.Path.{_≡_, refl, sym, ap, ap₂, _∙_}
+use mathlib.Core.Path.{_≡_, refl, ap, ap₂, _∙_}
 use mathlib.Core.List.{List, [], _∷_}
 use native.Mathlib.Omega.{arith}
 use native.Mathlib.Decide.{ℕ-discrete}
@@ -21,7 +21,7 @@ use Rattle.accept_ranges.proofs.Ranges.{fits-cell}
 use Rattle.accept_tables.specs.Tables.{tableNumbers}
 use Rattle.accept_rows.specs.Acceptance.{stateInRange, stateNumbers}
 use Rattle.accept_rows.specs.Vehicles.{vehicles, atOnRamp}
-use Rattle.recut_checks.specs.Pieces.{pieceCount, firstPiece, jamBefore}
+use Rattle.recut_checks.specs.Pieces.{firstPiece, jamBefore}
 use Rattle.recut.specs.declared.Piece.{Piece}
 use Rattle.recut.specs.Pieces.{pieceAt}
 use Rattle.recut.specs.Recut.{pieceVehicles, pieceCell, newCell, newState, newCorridor}
