@@ -106,9 +106,10 @@ fn cell_has_pieces(whole: &[u32], pieces: &[u32], parts: &[u32], i: usize, first
 {
     let count = piece_count(pieces, i);
     if count == 0 {
-        return false;
+        false
+    } else {
+        pieces_fit(row_at(whole, i), parts, first, count)
     }
-    pieces_fit(row_at(whole, i), parts, first, count)
 }
 
 // The least whole cell that has not its pieces by the rules.
