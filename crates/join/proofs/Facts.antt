@@ -6,7 +6,7 @@ use Rattle.whole.proofs.Sums.{sum-grows}
 use Rattle.layout.specs.Layout.{cells, rowAt}
 use Rattle.layout.specs.Corridor.{Corridor, cellsOf, rowOf, countOf}
 use Rattle.recut_checks.specs.Pieces.{pieceCount, firstPiece, jamBefore}
-use Rattle.recut_checks.proofs.Change.{Fits}
+use Rattle.recut_checks.proofs.Accepted.{Fits}
 use Rattle.join.specs.Join.{groupVehicles}
 use Rattle.join.specs.Private.{Joinable}
 use Rattle.join.proofs.Sums.{sum-of-smaller-terms}

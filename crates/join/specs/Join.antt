@@ -1,16 +1,16 @@
 -- Rules, "Join": the new state, and what is refused. The old cells of a group are the pieces of a new cell, and a group size their count.
 use Prim.Native.Nat.{ℕ, _+_}
 use mathlib.Core.Path.{_≡_}
-use mathlib.Core.List.{List, [], _∷_, _++_}
+use mathlib.Core.List.{List}
 use Rattle.whole.specs.Sums.{sum}
 use Rattle.refusals.specs.declared.Answer.{Answer}
-use Rattle.refusals.specs.declared.Refusal.the-variants.{Groups}
 use Rattle.refusals.specs.Checks.{Check, answer, whenAccepted}
 use Rattle.layout.specs.declared.Cell.{Cell}
 use Rattle.layout.specs.Layout.{cells, stateOf}
 use Rattle.layout.specs.Corridor.{Corridor, corridorOf, entryQueueOf, countOf, queueOf}
-use Rattle.recut_checks.specs.Pieces.{pieceCount, firstPiece, piecesNumber}
-use Rattle.recut_checks.specs.Change.{changeChecks}
+use Rattle.recut_checks.specs.declared.Change.the-variants.{Join}
+use Rattle.recut_checks.specs.Pieces.{pieceCount, firstPiece}
+use Rattle.recut_checks.specs.Change.{checksOf}
 
 -- the vehicles of count old cells from the one of index first
 abbrev pub groupVehicles : Corridor → ℕ → ℕ → ℕ
@@ -34,8 +34,7 @@ module _ (old : Corridor) (groups : List ℕ) where
 
 -- 1 to 5, with a group size for each new cell; then 14, where the old cells are not the pieces of the new ones
 abbrev pub joinChecks : Corridor → List ℕ → List ℕ → List ℕ → List Check
-joinChecks old groups new list =
-    changeChecks old groups (cells new) new list ++ (piecesNumber Groups new groups (old .table) ∷ [])
+joinChecks = checksOf Join
 
 -- what a join answers and leaves
 pub record JoinDone (old : Corridor) (groups new list : List ℕ) (a : Answer) (left : List ℕ) : Type 0 where

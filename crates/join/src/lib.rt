@@ -5,8 +5,8 @@ ghost use Rattle.refusals.specs.Checks.{answer};
 ghost use Rattle.join.specs.Private.{Joinable};
 ghost use Rattle.join.specs.Join.{groupVehicles, joinedState, joinChecks, JoinDone};
 use layout::*;
+use recut_checks::Change;
 use refusals::Answer;
-use refusals::Refusal;
 
 // The vehicles of a group of old cells.
 fn group_vehicles(old: &[u32], state: &[u32], first: usize, size: usize) -> u32
@@ -43,28 +43,12 @@ fn add_up(old: &[u32], state: &[u32], groups: &[u32], new: &[u32], list: &mut [u
     put_entry(list, entry_queue(state));
 }
 
-// Whether a join is accepted: numbers 1 to 5 and 14.
-fn accept_join(old: &[u32], state: &[u32], groups: &[u32], new: &[u32], list: &[u32]) -> Answer
-    ensures { λ r. ⌜ r ≡ answer (joinChecks (corridorOf (now (old .entry)) (now (state .entry))) (now (groups .entry)) (now (new .entry)) (now (list .entry))) ⌝ }
-{
-    let n = cells(new);
-    let change = recut_checks::accept_change(old, state, groups, n, new, list);
-    if let Answer::Refused(refusal) = change {
-        return Answer::Refused(refusal);
-    }
-    let at = recut_checks::misfit(new, groups, old);
-    if at <= n {
-        return Answer::Refused(Refusal::Groups(at));
-    }
-    Answer::Accepted
-}
-
 // The join of a table and a state into a new table, with one group size for each new cell. The new state goes to the list; on a refusal
 // that stays as it came.
 pub fn join(old: &[u32], state: &[u32], groups: &[u32], new: &[u32], list: &mut [u32]) -> Answer
     ensures { λ r. ⌜ JoinDone (corridorOf (now (old .entry)) (now (state .entry))) (now (groups .entry)) (now (new .entry)) (now (list .entry)) r (now (list .exit)) ⌝ }
 {
-    let found = accept_join(old, state, groups, new, list);
+    let found = recut_checks::accept(Change::Join, old, state, groups, new, list);
     if let Answer::Refused(refusal) = found {
         return Answer::Refused(refusal);
     }

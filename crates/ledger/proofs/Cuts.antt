@@ -16,7 +16,7 @@ use Rattle.accept_tables.specs.Tables.{tableLengthFits}
 use Rattle.accept_rows.specs.Acceptance.{stateNumbers}
 use Rattle.refusals.proofs.Answers.{lengths-passed}
 use Rattle.period.specs.Sharing.{Sharing}
-use Rattle.recut_checks.proofs.Change.{fits}
+use Rattle.recut_checks.proofs.Accepted.{fits}
 use Rattle.recut.specs.Recut.{newCorridor, recutChecks}
 use Rattle.recut.proofs.Facts.{CutFits}
 use Rattle.join.specs.Join.{joinedCorridor, joinChecks}

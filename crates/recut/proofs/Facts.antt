@@ -9,7 +9,7 @@ use Rattle.layout.specs.Layout.{MOST, cells, rowAt}
 use Rattle.layout.specs.Corridor.{Corridor, cellsOf, rowOf}
 use Rattle.recut_checks.specs.Pieces.{pieceCount, firstPiece, jamBefore}
 use Rattle.recut_checks.proofs.Pieced.{jams-more}
-use Rattle.recut_checks.proofs.Change.{Fits}
+use Rattle.recut_checks.proofs.Accepted.{Fits}
 use Rattle.recut.specs.declared.Piece.{Piece}
 use Rattle.recut.specs.Pieces.{pieceAt}
 use Rattle.recut.specs.Private.{Cuttable}

@@ -1,17 +1,16 @@
 -- Rules, "Re-cut": the new state, and what is refused.
 use Prim.Native.Nat.{ℕ, _+_, _-_, _*_, _/_, _%_}
 use mathlib.Core.Path.{_≡_}
-use mathlib.Core.List.{List, [], _∷_, _++_}
+use mathlib.Core.List.{List}
 use lib.Dec.{eqb}
 use Rattle.whole.specs.Search.{pick}
 use Rattle.refusals.specs.declared.Answer.{Answer}
-use Rattle.refusals.specs.declared.Refusal.the-variants.{Pieces}
 use Rattle.refusals.specs.Checks.{Check, answer, whenAccepted}
 use Rattle.layout.specs.declared.Cell.{Cell}
 use Rattle.layout.specs.Layout.{cells, rowAt, stateOf}
-use Rattle.layout.specs.Corridor.{Corridor, corridorOf, cellsOf, rowOf, entryQueueOf, countOf, queueOf}
-use Rattle.recut_checks.specs.Pieces.{piecesNumber}
-use Rattle.recut_checks.specs.Change.{changeChecks}
+use Rattle.layout.specs.Corridor.{Corridor, corridorOf, rowOf, entryQueueOf, countOf, queueOf}
+use Rattle.recut_checks.specs.declared.Change.the-variants.{Cut}
+use Rattle.recut_checks.specs.Change.{checksOf}
 use Rattle.recut.specs.declared.Piece.{Piece}
 use Rattle.recut.specs.declared.Share.{Share}
 use Rattle.recut.specs.Pieces.{pieceAt}
@@ -48,8 +47,7 @@ module _ (old : Corridor) (pieces new : List ℕ) where
 
 -- 1 to 5, with a piece count for each old cell; then 8, where the new cells are not the pieces of the old ones
 abbrev pub recutChecks : Corridor → List ℕ → List ℕ → List ℕ → List Check
-recutChecks old pieces new list =
-    changeChecks old pieces (cellsOf old) new list ++ (piecesNumber Pieces (old .table) pieces new ∷ [])
+recutChecks = checksOf Cut
 
 -- what a re-cut answers and leaves
 pub record RecutDone (old : Corridor) (pieces new list : List ℕ) (a : Answer) (left : List ℕ) : Type 0 where

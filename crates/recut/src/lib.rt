@@ -11,8 +11,8 @@ ghost use Rattle.recut.specs.Private.{restBefore, filled, Cuttable};
 ghost use Rattle.recut.specs.Pieces.{nextPiece};
 ghost use Rattle.recut.specs.Recut.{divided, byHand, newState, recutChecks, RecutDone};
 use layout::*;
+use recut_checks::Change;
 use refusals::Answer;
-use refusals::Refusal;
 
 // A piece of an old cell: its cell, its number there, and the sum of J before it.
 pub struct Piece {
@@ -144,28 +144,12 @@ fn cut(old: &[u32], state: &[u32], pieces: &[u32], new: &[u32], list: &mut [u32]
     put_entry(list, entry_queue(state));
 }
 
-// Whether a re-cut is accepted: numbers 1 to 5 and 8.
-fn accept_recut(old: &[u32], state: &[u32], pieces: &[u32], new: &[u32], list: &[u32]) -> Answer
-    ensures { λ r. ⌜ r ≡ answer (recutChecks (corridorOf (now (old .entry)) (now (state .entry))) (now (pieces .entry)) (now (new .entry)) (now (list .entry))) ⌝ }
-{
-    let n = cells(old);
-    let change = recut_checks::accept_change(old, state, pieces, n, new, list);
-    if let Answer::Refused(refusal) = change {
-        return Answer::Refused(refusal);
-    }
-    let at = recut_checks::misfit(old, pieces, new);
-    if at <= n {
-        return Answer::Refused(Refusal::Pieces(at));
-    }
-    Answer::Accepted
-}
-
 // The re-cut of a table and a state into a new table, with one piece count for each old cell. The new state goes to the list; on a refusal
 // that stays as it came.
 pub fn recut(old: &[u32], state: &[u32], pieces: &[u32], new: &[u32], list: &mut [u32]) -> Answer
     ensures { λ r. ⌜ RecutDone (corridorOf (now (old .entry)) (now (state .entry))) (now (pieces .entry)) (now (new .entry)) (now (list .entry)) r (now (list .exit)) ⌝ }
 {
-    let found = accept_recut(old, state, pieces, new, list);
+    let found = recut_checks::accept(Change::Cut, old, state, pieces, new, list);
     if let Answer::Refused(refusal) = found {
         return Answer::Refused(refusal);
     }

@@ -17,8 +17,8 @@ use Rattle.layout.specs.Corridor.{Corridor}
 use Rattle.accept_tables.specs.Tables.{tableLengthFits, bothTables, bothTablesChecks}
 use Rattle.accept_rows.specs.Acceptance.{stateInRange, stateAloneChecks}
 use Rattle.recut_checks.specs.Pieces.{piecesNumber}
-use Rattle.recut_checks.specs.Change.{changeListsFit, changeChecks}
-use Rattle.recut_checks.proofs.Change.{ListsFit, withPieces}
+use Rattle.recut_checks.specs.Change.{changeListsFit, changeChecks, withPieces}
+use Rattle.recut_checks.proofs.Accepted.{ListsFit}
 
 pub lists-refused : (old : Corridor) (counts : List ℕ) (many : ℕ) (new list : List ℕ) → changeListsFit old counts many new list ≡ false → Refused Length ≡ answer (changeChecks old counts many new list)
 lists-refused old counts many new list e =

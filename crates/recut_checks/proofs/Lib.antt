@@ -1,5 +1,5 @@
 pub mod Left
 pub mod Pieced
-pub mod Change
+pub mod Accepted
 pub mod Answers
 pub mod Settled

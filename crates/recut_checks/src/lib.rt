@@ -1,4 +1,4 @@
-// What a re-cut and a join ask alike: numbers 1 to 5 of their lists, and that the cells of one table are the pieces of the other's.
+// What a re-cut and a join ask: numbers 1 to 5 of their lists, and that the cells of one table are the pieces of the other's.
 ghost use Prim.Native.Nat.{_+_};
 ghost use mathlib.Core.Path.{_≡_};
 ghost use Rattle.whole.specs.Search.{firstFailing};
@@ -6,7 +6,7 @@ ghost use Rattle.layout.specs.Layout.{cells};
 ghost use Rattle.layout.specs.Corridor.{corridorOf};
 ghost use Rattle.refusals.specs.Checks.{answer};
 ghost use Rattle.recut_checks.specs.Pieces.{piecesHold};
-ghost use Rattle.recut_checks.specs.Change.{changeListsFit, changeChecks};
+ghost use Rattle.recut_checks.specs.Change.{wholeOf, partsOf, refusalOf, changeListsFit, changeChecks, checksOf};
 
 mod pieces;
 
@@ -14,6 +14,12 @@ use layout::cells;
 use layout::state_length;
 use refusals::Answer;
 use refusals::Refusal;
+
+// How the cells of a table change: they are cut into pieces, or they are pieces and are joined.
+pub enum Change {
+    Cut,
+    Join,
+}
 
 // Number 1 of the lists under the two tables.
 fn change_lists_fit(
@@ -31,9 +37,8 @@ fn change_lists_fit(
         & (list.len() == state_length(cells(new)))
 }
 
-// Whether a change from an old table and state to a new table is accepted, but for what its counts say: numbers 1 to 5. There are to be so
-// many counts.
-pub fn accept_change(
+// Numbers 1 to 5 of a change from an old table and state to a new table. There are to be so many counts.
+fn accept_lists(
     old: &[u32],
     state: &[u32],
     counts: &[u32],
@@ -55,11 +60,64 @@ pub fn accept_change(
 
 // The least place where the cells of the second table are not the pieces of those of the first by the rules: 0 for the sum of the counts,
 // or a whole cell, counted from 1. It is past the last cell where there is none.
-pub fn misfit(whole: &[u32], pieces: &[u32], parts: &[u32]) -> usize
+fn misfit(whole: &[u32], pieces: &[u32], parts: &[u32]) -> usize
     ensures { λ r. ⌜ r ≡ firstFailing (cells (now (whole .entry)) + 1) (piecesHold (now (whole .entry)) (now (pieces .entry)) (now (parts .entry))) ⌝ }
 {
     if !pieces::counts_sum(pieces, cells(whole), cells(parts)) {
         return 0;
     }
     pieces::cells_have_pieces(whole, pieces, parts) + 1
+}
+
+// The number of whole cells: of a cut they are the old ones, of a join the new ones.
+fn whole_cells(change: Change, old: &[u32], new: &[u32]) -> usize
+    ensures { λ r. ⌜ r ≡ cells (wholeOf change (now (old .entry)) (now (new .entry))) ⌝ }
+{
+    match change {
+        Change::Cut => cells(old),
+        Change::Join => cells(new),
+    }
+}
+
+// The least place where a change breaks the rules of pieces.
+fn misfit_of(change: Change, old: &[u32], counts: &[u32], new: &[u32]) -> usize
+    ensures { λ r. ⌜ r ≡ firstFailing (cells (wholeOf change (now (old .entry)) (now (new .entry))) + 1) (piecesHold (wholeOf change (now (old .entry)) (now (new .entry))) (now (counts .entry)) (partsOf change (now (old .entry)) (now (new .entry)))) ⌝ }
+{
+    match change {
+        Change::Cut => misfit(old, counts, new),
+        Change::Join => misfit(new, counts, old),
+    }
+}
+
+// The refusal of pieces at a place.
+fn refusal_of(change: Change, place: usize) -> Refusal
+    ensures { λ r. ⌜ r ≡ refusalOf change place ⌝ }
+{
+    match change {
+        Change::Cut => Refusal::Pieces(place),
+        Change::Join => Refusal::Groups(place),
+    }
+}
+
+// Whether a re-cut or a join is accepted: numbers 1 to 5, and 8 or 14. There is a count for each whole cell.
+pub fn accept(
+    change: Change,
+    old: &[u32],
+    state: &[u32],
+    counts: &[u32],
+    new: &[u32],
+    list: &[u32],
+) -> Answer
+    ensures { λ r. ⌜ r ≡ answer (checksOf change (corridorOf (now (old .entry)) (now (state .entry))) (now (counts .entry)) (now (new .entry)) (now (list .entry))) ⌝ }
+{
+    let n = whole_cells(change, old, new);
+    let found = accept_lists(old, state, counts, n, new, list);
+    if let Answer::Refused(refusal) = found {
+        return Answer::Refused(refusal);
+    }
+    let at = misfit_of(change, old, counts, new);
+    if at <= n {
+        return Answer::Refused(refusal_of(change, at));
+    }
+    Answer::Accepted
 }

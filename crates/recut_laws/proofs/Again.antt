@@ -19,7 +19,7 @@ use Rattle.accept_rows.proofs.Lengths.{cells-fit}
 use Rattle.accept_rows.proofs.Accepted.{state-fits}
 use Rattle.recut_checks.specs.Pieces.{pieceCount, firstPiece}
 use Rattle.recut_checks.proofs.Pieced.{Pieced}
-use Rattle.recut_checks.proofs.Change.{fits}
+use Rattle.recut_checks.proofs.Accepted.{fits}
 use Rattle.recut.specs.declared.Piece.{Piece}
 use Rattle.recut.specs.Pieces.{pieceAt}
 use Rattle.recut.specs.Recut.{newCorridor, recutChecks}

@@ -17,9 +17,9 @@ use Rattle.layout.proofs.Laid.{laying-ends}
 use Rattle.accept_tables.specs.Tables.{tableNumbers, rowsInRange, roomsShared, rampsOnce, bothTables}
 use Rattle.accept_rows.specs.Acceptance.{stateInRange}
 use Rattle.recut_checks.specs.Pieces.{pieceCount, firstPiece, noOtherRamp, piecesFit, cellHasPieces, piecesHold, piecesNumber}
-use Rattle.recut_checks.specs.Change.{changeChecks}
+use Rattle.recut_checks.specs.Change.{changeChecks, withPieces}
 use Rattle.recut_checks.proofs.Pieced.{CellPieces, Pieced}
-use Rattle.recut_checks.proofs.Change.{Fits, withPieces}
+use Rattle.recut_checks.proofs.Accepted.{Fits}
 use Rattle.join.specs.Join.{joinedCell, joinedState}
 
 -- pieces that are known to be those of the whole cells are found to be

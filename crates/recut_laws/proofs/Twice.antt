@@ -20,7 +20,7 @@ use Rattle.layout.specs.Layout.{cells, rowAt, stateLength}
 use Rattle.layout.specs.Corridor.{Corridor, countOf, queueOf}
 use Rattle.recut_checks.specs.Pieces.{pieceCount, firstPiece, jamBefore}
 use Rattle.recut_checks.proofs.Pieced.{CellPieces, Pieced}
-use Rattle.recut_checks.proofs.Change.{fits}
+use Rattle.recut_checks.proofs.Accepted.{fits}
 use Rattle.recut.specs.declared.Piece.{Piece}
 use Rattle.recut.specs.Pieces.{pieceAt}
 use Rattle.recut.proofs.Walk.{On, Followed, Last, followed-or-last, piece-of}

@@ -7,7 +7,7 @@ use lib.ListN.{length}
 use Rattle.refusals.specs.declared.Refusal.the-variants.{Groups}
 use Rattle.layout.specs.Layout.{cells, stateLength}
 use Rattle.layout.specs.Corridor.{corridorOf}
-use Rattle.recut_checks.proofs.Change.{list-length, fits}
+use Rattle.recut_checks.proofs.Accepted.{list-length, fits}
 use Rattle.join.proofs.Groups.{AddingUp, begins, size-inside, work, goes-on, ends}
 use Rattle.join.proofs.add_up.Statement.{statement}
 use Rattle.join.proofs.add_up.Tie as tie

@@ -7,7 +7,7 @@ use lib.ListN.{length}
 use Rattle.refusals.specs.declared.Refusal.the-variants.{Pieces}
 use Rattle.layout.specs.Layout.{cells, stateLength}
 use Rattle.layout.specs.Corridor.{corridorOf}
-use Rattle.recut_checks.proofs.Change.{list-length, fits}
+use Rattle.recut_checks.proofs.Accepted.{list-length, fits}
 use Rattle.recut.proofs.Cutting.{Cutting, begins, work, next-asked, goes-on, ends}
 use Rattle.recut.proofs.cut.Statement.{statement}
 use Rattle.recut.proofs.cut.Tie as tie

@@ -1,12 +1,12 @@
--- `recut_checks::accept_change` meets its contract. Assumes nothing.
+-- `recut_checks::accept_lists` meets its contract. Assumes nothing.
 use mathlib.Core.Path.{sym, _∙_}
 use borrow.Author.Tests.{not-true, not-false}
 use borrow.Author.Needs.{needs}
 use Rattle.layout.specs.Corridor.{corridorOf}
-use Rattle.recut_checks.proofs.Change.{ListsFit, lists-fit}
+use Rattle.recut_checks.proofs.Accepted.{ListsFit, lists-fit}
 use Rattle.recut_checks.proofs.Answers.{lists-refused, tables-refused, state-decides}
-use Rattle.recut_checks.proofs.accept_change.Statement.{statement}
-use Rattle.recut_checks.proofs.accept_change.Tie as tie
+use Rattle.recut_checks.proofs.accept_lists.Statement.{statement}
+use Rattle.recut_checks.proofs.accept_lists.Tie as tie
 
 returns : tie.Need-returns
 returns c =
@@ -29,8 +29,8 @@ returns-3 c =
     let tables = told .before .before in
     state-decides (fits (tables .before)) (sym (told .enum-told .given .1) ∙ tables .accept-both .ensures) (c .accept-state-alone .ensures)
 
-pub accept-change-spec : {M : Type 1} → statement M
-accept-change-spec =
+pub accept-lists-spec : {M : Type 1} → statement M
+accept-lists-spec =
     tie.close
     (tie.spec
     (λ c κs. search needs)

@@ -2,7 +2,7 @@
 use Prim.Native.Nat.{ℕ}
 use mathlib.Core.Path.{_≡_, refl}
 use mathlib.Core.Bool.{true, _&&_}
-use mathlib.Core.List.{List, [], _∷_, _++_}
+use mathlib.Core.List.{List, [], _∷_}
 use native.Mathlib.Omega.{arith}
 use borrow.Author.Tests.{eqb-true}
 use lib.Dec.{eqb}
@@ -22,7 +22,7 @@ use Rattle.accept_rows.specs.Acceptance.{stateInRange, stateNumbers}
 use Rattle.accept_rows.proofs.Lengths.{cells-fit}
 use Rattle.accept_rows.proofs.Accepted.{StateFits, state-fits}
 use Rattle.recut_checks.specs.Pieces.{piecesNumber}
-use Rattle.recut_checks.specs.Change.{changeListsFit, changeChecks}
+use Rattle.recut_checks.specs.Change.{changeListsFit, changeChecks, withPieces}
 use Rattle.recut_checks.proofs.Pieced.{Pieced, pieced}
 
 -- the lengths of the lists under the two tables
@@ -98,11 +98,6 @@ module _ (old : Corridor) (counts : List ℕ) (many : ℕ) (new list : List ℕ)
         old-fits = table-fits (old .table) (tables .0);
         new-fits = table-fits new (tables .1);
       }
-
--- the change, and then the pieces, with a count for each whole cell
-abbrev pub withPieces : (ℕ → Refusal) → Corridor → List ℕ → List ℕ → List ℕ → List ℕ → List ℕ → List Check
-withPieces give old pieces new list whole parts =
-    changeChecks old pieces (cells whole) new list ++ (piecesNumber give whole pieces parts ∷ [])
 
 -- what an accepted re-cut or join is known to start from
 pub record Fits (old : Corridor) (pieces new whole parts : List ℕ) : Type 0 where
