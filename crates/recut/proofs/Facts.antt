@@ -41,8 +41,8 @@ module _ (old : Corridor) (pieces new : List ℕ) (known : CutFits old pieces ne
         some = known .change .old-fits .rows (piece .cell) (the-piece .cell-is) .jam .least;
         held = known .change .state-fits-it .cells (piece .cell) (the-piece .cell-is) .count;
         within =
-            omega
-            (arith, jams-with, known .pieced .each (piece .cell) (the-piece .cell-is) .jams, sum-grows (piece .number + 1) all (λ m. rowAt new (first + m) .jam) (omega (arith, the-piece .number-is)));
+            let grows = sum-grows (piece .number + 1) all (λ m. rowAt new (first + m) .jam) (omega (arith, the-piece .number-is)) in
+            omega (arith, jams-with, known .pieced .each (piece .cell) (the-piece .cell-is) .jams, grows);
       }
 
   -- with the last piece of a cell all its jam count is there
@@ -53,5 +53,7 @@ module _ (old : Corridor) (pieces new : List ℕ) (known : CutFits old pieces ne
 
   pub next-asks : (piece .cell < length pieces) × (piece .number < MOST) × (piece .before ≤ 4_000_000)
   next-asks =
-      omega
-      (arith, the-piece .cell-is, the-piece .number-is, known .counts, known .pieced .sums, sum-grows (suc (piece .cell)) (cellsOf old) (pieceCount pieces) (the-piece .cell-is), known .change .new-cells, cuttable .within, known .change .old-fits .rows (piece .cell) (the-piece .cell-is) .jam .most)
+      let grows = sum-grows (suc (piece .cell)) (cellsOf old) (pieceCount pieces) (the-piece .cell-is) in
+      let few = known .change .new-cells in
+      let most = known .change .old-fits .rows (piece .cell) (the-piece .cell-is) .jam .most in
+      omega (arith, the-piece .cell-is, the-piece .number-is, known .counts, known .pieced .sums, grows, few, cuttable .within, most)

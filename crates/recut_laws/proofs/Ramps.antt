@@ -31,7 +31,8 @@ module _ (whole pieces parts : List ℕ) (known : Pieced whole pieces parts) whe
     cell-of : CellPieces whole pieces parts (piece j .cell)
     cell-of = known .each (piece j .cell) (on .cell-is)
 
-    pub first-has-on-ramp : pieceAt pieces parts j .number ≡ 0 → (rowAt parts j .on ≡ rowAt whole (pieceAt pieces parts j .cell) .on) × (rowAt parts j .c ≡ rowAt whole (pieceAt pieces parts j .cell) .c)
+    pub first-has-on-ramp : pieceAt pieces parts j .number ≡ 0
+        → let cell = rowAt whole (pieceAt pieces parts j .cell) in (rowAt parts j .on ≡ cell .on) × (rowAt parts j .c ≡ cell .c)
     first-has-on-ramp e =
         let same : j ≡ firstPiece pieces (piece j .cell) = omega (arith, on .at) in
         (ap (λ k. rowAt parts k .on) same ∙ cell-of .on, ap (λ k. rowAt parts k .c) same ∙ cell-of .c)
@@ -83,7 +84,8 @@ module _ (whole pieces parts : List ℕ) (known : Pieced whole pieces parts) whe
       by (yes e) = rw (eq-eqb (piece j .number) 0 e) (ap present (first-has-on-ramp j h e .0))
       by (no other) = rw (ne-eqb (piece j .number) 0 other, other-has-no-on-ramp j h other) (append-nil (present (rowAt whole (piece j .cell) .on)))
 
-  one-cell-more : (j : ℕ) → j < cells parts → Read j (piece j .cell) (piece j .number) → rampsTo parts (suc j) ≡ rampsTo whole (piece j .cell) ++ (present (rowAt whole (piece j .cell) .on) ++ present (rowAt parts j .off))
+  one-cell-more : (j : ℕ) → j < cells parts → Read j (piece j .cell) (piece j .number)
+      → rampsTo parts (suc j) ≡ rampsTo whole (piece j .cell) ++ (present (rowAt whole (piece j .cell) .on) ++ present (rowAt parts j .off))
   unfolding rampsTo
   one-cell-more j h before =
       rw before
@@ -94,10 +96,10 @@ module _ (whole pieces parts : List ℕ) (known : Pieced whole pieces parts) whe
   unfolding rampsTo
   pieces-keep-the-ramps = to-the-end whole pieces parts known Read refl within after ∙ append-nil (rampsTo whole (cells whole))
     where
-      within : (j : ℕ) → j < cells parts → Read j (piece j .cell) (piece j .number) → Followed pieces (piece j) → Read (suc j) (piece j .cell) (piece j .number + 1)
-      within j h before more =
+      within : (j : ℕ) → j < cells parts → Followed pieces (piece j) → Read j (piece j .cell) (piece j .number) → Read (suc j) (piece j .cell) (piece j .number + 1)
+      within j h more before =
           one-cell-more j h before
           ∙ rw (other-has-no-off-ramp j h more, ne-eqb (piece j .number + 1) 0 (λ e. omega arith)) (simp append-nil)
 
-      after : (j : ℕ) → j < cells parts → Read j (piece j .cell) (piece j .number) → Last pieces (piece j) → Read (suc j) (suc (piece j .cell)) 0
-      after j h before e = one-cell-more j h before ∙ rw (last-has-off-ramp j h e .0) (simp append-nil)
+      after : (j : ℕ) → j < cells parts → Last pieces (piece j) → Read j (piece j .cell) (piece j .number) → Read (suc j) (suc (piece j .cell)) 0
+      after j h e before = one-cell-more j h before ∙ rw (last-has-off-ramp j h e .0) (simp append-nil)

@@ -160,7 +160,8 @@ module _ (c : Corridor) {refusal : Refusal} where
     period-lowest sheet = one-to-seven (rowLengthsFit c demand && eqb (length sheet) (sheetLength (cellsOf c))) c demand
 
   -- of two tables in turn the number is the lowest, and a last one comes after 5
-  change-lowest : (counts : List ℕ) (many : ℕ) (new list : List ℕ) {last : Check} {number : ℕ} → 5 ≤ number → Numbered number last → answer (changeChecks c counts many new list ++ (last ∷ [])) ≡ Refused refusal → LowestNumber (changeChecks c counts many new list ++ (last ∷ [])) refusal
+  change-lowest : (counts : List ℕ) (many : ℕ) (new list : List ℕ) {last : Check} {number : ℕ} → 5 ≤ number → Numbered number last
+      → let checks = changeChecks c counts many new list ++ (last ∷ []) in answer checks ≡ Refused refusal → LowestNumber checks refusal
   change-lowest counts many new list {last} {number} after numbered =
       lowest-number 1 (1 ∷ 2 ∷ 2 ∷ 3 ∷ 3 ∷ 4 ∷ 4 ∷ 5 ∷ number ∷ []) (changeChecks c counts many new list ++ (last ∷ []))
       (omega arith, (one _, (omega arith, (two (c .table), (omega arith, (two new, (omega arith, (three (c .table), (omega arith, (three new, (omega arith, (four (c .table), (omega arith, (four new, (omega arith, (five c, (after, (numbered, tt))))))))))))))))))
