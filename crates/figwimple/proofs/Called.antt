@@ -15,7 +15,7 @@ use Rattle.refusals.specs.declared.Refusal.the-variants.{Length, TableNumber, R
 use Rattle.refusals.specs.declared.Answer.{Answer}
 use Rattle.refusals.specs.declared.Answer.the-variants.{Accepted, Refused}
 use Rattle.refusals.specs.Refusals.{numberOf, placeOf}
-use Rattle.refusals.specs.Checks.{answer}
+use Rattle.refusals.specs.Checks.{Check, answer}
 use Rattle.whole.proofs.Tests.{both-hold}
 use Rattle.accept_ranges.proofs.Ranges.{Between}
 use Rattle.layout.specs.Corridor.{Corridor}
@@ -23,8 +23,7 @@ use Rattle.period.specs.Sharing.{Sharing}
 use Rattle.period.specs.Period.{PeriodDone}
 use Rattle.period_run.specs.declared.Ran.{Ran}
 use Rattle.period_run.specs.Run.{RunDone}
-use Rattle.recut.specs.Recut.{RecutDone}
-use Rattle.join.specs.Join.{JoinDone}
+use Rattle.recut_checks.specs.Change.{ChangeDone}
 use Rattle.calibrate_fit.specs.declared.Settings.{Settings}
 use Rattle.calibrate_rows.specs.declared.Diagram.{Diagram}
 use Rattle.calibrate_rows.specs.declared.RowValues.{RowValues}
@@ -35,7 +34,7 @@ use Rattle.calibrate_rows.specs.RowNumbers.{rowNumbers}
 use Rattle.calibrate_fit.specs.Calibration.{calibrationChecks, fittedDiagram, fittedValues, calibratedAs, calibrationOf}
 use Rattle.figwimple.specs.Words.{PLACES, ANSWERS, wordOf}
 use Rattle.figwimple.specs.Private.{COUNTS, Placed}
-use Rattle.figwimple.specs.Calls.{PeriodCalled, RunCalled, RecutCalled, JoinCalled, fiveOf, fourOf, resultsFit, CalibrateCalled}
+use Rattle.figwimple.specs.Calls.{PeriodCalled, RunCalled, ChangeCalled, fiveOf, fourOf, resultsFit, CalibrateCalled}
 use Rattle.figwimple.proofs.Places.{calibration-placed}
 
 -- Words
@@ -114,12 +113,9 @@ module _ {way : Sharing} {c : Corridor} {demand sheet stateLeft sheetLeft : List
             record { periods = refl; answered = refl; leavesState = done .leavesState; leavesSheet = done .leavesSheet };
       }
 
-pub recut-called : {old : Corridor} {pieces new list left : List ℕ} {a : Answer} {word : ℕ} → RecutDone old pieces new list a left → word ≡ wordOf 0 a → RecutCalled old pieces new list word left
-recut-called done e =
-    record { answered = e ∙ ap (wordOf 0) (done .answered); leaves = record { answered = refl; leaves = done .leaves } }
-
-pub join-called : {old : Corridor} {groups new list left : List ℕ} {a : Answer} {word : ℕ} → JoinDone old groups new list a left → word ≡ wordOf 0 a → JoinCalled old groups new list word left
-join-called done e =
+pub change-called : {checks : List Check} {made list left : List ℕ} {a : Answer} {word : ℕ} → ChangeDone checks made list a left → word ≡ wordOf 0 a
+    → ChangeCalled checks made list word left
+change-called done e =
     record { answered = e ∙ ap (wordOf 0) (done .answered); leaves = record { answered = refl; leaves = done .leaves } }
 
 -- Calibrations

@@ -10,13 +10,14 @@ use Rattle.whole.specs.Search.{pick}
 use Rattle.refusals.specs.declared.Refusal.the-variants.{Length}
 use Rattle.refusals.specs.declared.Answer.{Answer}
 use Rattle.refusals.specs.declared.Answer.the-variants.{Refused}
-use Rattle.refusals.specs.Checks.{answer, whenAccepted}
+use Rattle.refusals.specs.Checks.{Check, answer, whenAccepted}
 use Rattle.layout.specs.Corridor.{Corridor}
 use Rattle.period.specs.Sharing.{Sharing}
 use Rattle.period.specs.Period.{periodChecks, PeriodDone}
 use Rattle.period_run.specs.Run.{periodsRun, runAnswer, RunDone}
-use Rattle.recut.specs.Recut.{recutChecks, RecutDone}
-use Rattle.join.specs.Join.{joinChecks, JoinDone}
+use Rattle.recut_checks.specs.Change.{ChangeDone}
+use Rattle.recut.specs.Recut.{newState, recutChecks}
+use Rattle.join.specs.Join.{joinedState, joinChecks}
 use Rattle.calibrate_fit.specs.declared.Settings.{Settings}
 use Rattle.calibrate_rows.specs.declared.Diagram.{Diagram}
 use Rattle.calibrate_rows.specs.declared.RowNumbers.{RowNumbers}
@@ -32,13 +33,15 @@ pub record RunCalled (way : Sharing) (c : Corridor) (demand sheet : List ℕ) (w
   pub answered : word ≡ wordOf (periodsRun way c demand sheet) (runAnswer way c demand sheet)
   pub leaves : RunDone way c demand sheet (record { periods = periodsRun way c demand sheet; answer = runAnswer way c demand sheet }) stateLeft sheetLeft
 
-pub record RecutCalled (old : Corridor) (pieces new list : List ℕ) (word : ℕ) (left : List ℕ) : Type 0 where
-  pub answered : word ≡ wordOf 0 (answer (recutChecks old pieces new list))
-  pub leaves : RecutDone old pieces new list (answer (recutChecks old pieces new list)) left
+pub record ChangeCalled (checks : List Check) (made list : List ℕ) (word : ℕ) (left : List ℕ) : Type 0 where
+  pub answered : word ≡ wordOf 0 (answer checks)
+  pub leaves : ChangeDone checks made list (answer checks) left
 
-pub record JoinCalled (old : Corridor) (groups new list : List ℕ) (word : ℕ) (left : List ℕ) : Type 0 where
-  pub answered : word ≡ wordOf 0 (answer (joinChecks old groups new list))
-  pub leaves : JoinDone old groups new list (answer (joinChecks old groups new list)) left
+abbrev pub RecutCalled : Corridor → List ℕ → List ℕ → List ℕ → ℕ → List ℕ → Type 0
+RecutCalled old pieces new list = ChangeCalled (recutChecks old pieces new list) (newState old pieces new) list
+
+abbrev pub JoinCalled : Corridor → List ℕ → List ℕ → List ℕ → ℕ → List ℕ → Type 0
+JoinCalled old groups new list = ChangeCalled (joinChecks old groups new list) (joinedState old groups new) list
 
 abbrev pub settingsOf : Float → ℕ → ℕ → Float → ℕ → ℕ → Settings
 settingsOf g lanes t l start end = record { g = g; lanes = lanes; period = t; cell = l; start = start; end = end }

@@ -1,16 +1,15 @@
 -- Rules, "Join": the new state, and what is refused. The old cells of a group are the pieces of a new cell, and a group size their count.
 use Prim.Native.Nat.{ℕ, _+_}
-use mathlib.Core.Path.{_≡_}
 use mathlib.Core.List.{List}
 use Rattle.whole.specs.Sums.{sum}
 use Rattle.refusals.specs.declared.Answer.{Answer}
-use Rattle.refusals.specs.Checks.{Check, answer, whenAccepted}
+use Rattle.refusals.specs.Checks.{Check}
 use Rattle.layout.specs.declared.Cell.{Cell}
 use Rattle.layout.specs.Layout.{cells, stateOf}
 use Rattle.layout.specs.Corridor.{Corridor, corridorOf, entryQueueOf, countOf, queueOf}
 use Rattle.recut_checks.specs.declared.Change.the-variants.{Join}
 use Rattle.recut_checks.specs.Pieces.{pieceCount, firstPiece}
-use Rattle.recut_checks.specs.Change.{checksOf}
+use Rattle.recut_checks.specs.Change.{checksOf, ChangeDone}
 
 -- the vehicles of count old cells from the one of index first
 abbrev pub groupVehicles : Corridor → ℕ → ℕ → ℕ
@@ -37,6 +36,5 @@ abbrev pub joinChecks : Corridor → List ℕ → List ℕ → List ℕ → List
 joinChecks = checksOf Join
 
 -- what a join answers and leaves
-pub record JoinDone (old : Corridor) (groups new list : List ℕ) (a : Answer) (left : List ℕ) : Type 0 where
-  pub answered : a ≡ answer (joinChecks old groups new list)
-  pub leaves : left ≡ whenAccepted (answer (joinChecks old groups new list)) (joinedState old groups new) list
+abbrev pub JoinDone : Corridor → List ℕ → List ℕ → List ℕ → Answer → List ℕ → Type 0
+JoinDone old groups new list = ChangeDone (joinChecks old groups new list) (joinedState old groups new) list

@@ -4,14 +4,15 @@ use mathlib.Core.Path.{_≡_, refl, ap, _∙_}
 use mathlib.Core.List.{List}
 use Rattle.refusals.specs.declared.Answer.{Answer}
 use Rattle.refusals.specs.declared.Answer.the-variants.{Accepted, Refused}
-use Rattle.refusals.specs.Checks.{answer, whenAccepted}
+use Rattle.refusals.specs.Checks.{Check, answer, whenAccepted}
 use Rattle.layout.specs.Corridor.{Corridor, corridorOf}
 use Rattle.period.specs.Sharing.{Sharing}
 use Rattle.period.specs.Period.{stateAfter, corridorAfter, periodChecks, PeriodDone}
 use Rattle.period_run.specs.declared.Ran.{Ran}
 use Rattle.period_run.specs.Run.{corridorAfterPeriods, periodsRun, RunDone}
-use Rattle.recut.specs.Recut.{newState, recutChecks, RecutDone}
-use Rattle.join.specs.Join.{joinedState, joinChecks, JoinDone}
+use Rattle.recut_checks.specs.Change.{ChangeDone}
+use Rattle.recut.specs.Recut.{RecutDone}
+use Rattle.join.specs.Join.{JoinDone}
 use Rattle.ledger.specs.Calls.{period, run, recut, join, leaves}
 
 module _ (way : Sharing) (c : Corridor) where
@@ -35,16 +36,20 @@ module _ (way : Sharing) (c : Corridor) where
   run-leaves {demand} {sheet} done = ap (corridorOf (c .table)) (done .leavesState) ∙ same-table demand (periodsRun way c demand sheet)
 
   -- a re-cut or a join that is accepted leaves the new table and the state in the list; one that is refused leaves the corridor
-  change-leaves : (a : Answer) (new made list : List ℕ) → whenAccepted a (corridorOf new (whenAccepted a made list)) c ≡ whenAccepted a (corridorOf new made) c
-  change-leaves Accepted new made list = refl
-  change-leaves (Refused refusal) new made list = refl
+  change-leaves : (new : List ℕ) {checks : List Check} {made list left : List ℕ} {a : Answer} → ChangeDone checks made list a left
+      → whenAccepted a (corridorOf new left) c ≡ whenAccepted (answer checks) (corridorOf new made) c
+  change-leaves new {checks} {made} {list} done = rw (done .answered, done .leaves) (by (answer checks))
+    where
+      by : (a : Answer) → whenAccepted a (corridorOf new (whenAccepted a made list)) c ≡ whenAccepted a (corridorOf new made) c
+      by Accepted = refl
+      by (Refused refusal) = refl
 
-  pub recut-leaves : {pieces new list left : List ℕ} {a : Answer} → RecutDone c pieces new list a left → whenAccepted a (corridorOf new left) c ≡ leaves way (recut pieces new list) c
+  pub recut-leaves : (pieces new list : List ℕ) {left : List ℕ} {a : Answer} → RecutDone c pieces new list a left
+      → whenAccepted a (corridorOf new left) c ≡ leaves way (recut pieces new list) c
   unfolding leaves
-  recut-leaves {pieces} {new} {list} done =
-      rw (done .answered, done .leaves) (change-leaves (answer (recutChecks c pieces new list)) new (newState c pieces new) list)
+  recut-leaves pieces new list = change-leaves new
 
-  pub join-leaves : {groups new list left : List ℕ} {a : Answer} → JoinDone c groups new list a left → whenAccepted a (corridorOf new left) c ≡ leaves way (join groups new list) c
+  pub join-leaves : (groups new list : List ℕ) {left : List ℕ} {a : Answer} → JoinDone c groups new list a left
+      → whenAccepted a (corridorOf new left) c ≡ leaves way (join groups new list) c
   unfolding leaves
-  join-leaves {groups} {new} {list} done =
-      rw (done .answered, done .leaves) (change-leaves (answer (joinChecks c groups new list)) new (joinedState c groups new) list)
+  join-leaves groups new list = change-leaves new

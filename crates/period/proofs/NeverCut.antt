@@ -1,9 +1,8 @@
 -- Step 4 once had one more line: where f + s would pass n, s was n − f. That never came to be, for any kind of off-ramp, and so every answer of the
 -- rule with that line is an answer of the rule without it. Assumes nothing.
 use Prim.Native.Nat.{ℕ, suc, _+_, _-_, _≤_, _<_}
-use mathlib.Core.Path.{_≡_, refl, ap, _∙_}
+use mathlib.Core.Path.{_≡_, ap, _∙_}
 use mathlib.Core.List.{List, [], _∷_, _++_}
-use native.Mathlib.Omega.{arith}
 use borrow.Author.Tests.{le-leb}
 use lib.Dec.{leb}
 use Rattle.whole.specs.Share.{ONE}

@@ -1,5 +1,5 @@
 -- What passes at each node, and what each position sends there. Assumes nothing.
-use Prim.Native.Nat.{ℕ, suc, _-_, _≤_, _<_, min}
+use Prim.Native.Nat.{ℕ, suc, _≤_, _<_, min}
 use mathlib.Core.Path.{_≡_, refl, sym, _∙_}
 use mathlib.Core.Bool.{Bool, true, false, _&&_}
 use mathlib.Core.List.{List}
@@ -118,7 +118,8 @@ module _ {n i count : ℕ} {c : Corridor} {demand : List ℕ} {row : Row} (read 
   is-of-sent way fair o f = rw (f, read .is-row, read .is-count, o, read .known .all) (flow-of-sent way fair c demand i)
 
   -- what leaves by its off-ramp is stored
-  pub off-stored : (way : Sharing) (sheet : List ℕ) {o f s : ℕ} {before after : List ℕ} → o ≡ offDemandAt n demand i → f ≡ flowAt way c demand (suc i) → s ≡ offFlow row count o f → before ≡ cellSent way c demand n sheet i
+  pub off-stored : (way : Sharing) (sheet : List ℕ) {o f s : ℕ} {before after : List ℕ} → o ≡ offDemandAt n demand i
+      → f ≡ flowAt way c demand (suc i) → s ≡ offFlow row count o f → before ≡ cellSent way c demand n sheet i
       → after ≡ withOffFlow n before i s → after ≡ cellPassed way c demand n sheet i
   unfolding cellPassed
   off-stored way sheet o f s before after = after ∙ rw (off-flow-is way o f s, before)

@@ -25,17 +25,25 @@ use Rattle.recut.specs.Private.{restBefore, restAfter, filled, Cuttable}
 use Rattle.recut.proofs.Shares.{share-at-most, share-by-remainder, none-left-before, last-leaves-none}
 use Rattle.recut.proofs.Facts.{CutFits, cuttable, last-is-whole, next-asks}
 
--- what a share and a queue are worked out from
+-- a piece's share by hand, from what is left before it, and its queue
+abbrev pub handShare : Corridor → Piece → ℕ → Share
+handShare old piece jam = byHand (countOf old (piece .cell)) (rowOf old (piece .cell) .jam) jam (restBefore old piece)
+
+abbrev ownQueue : Corridor → Piece → ℕ
+ownQueue old piece = pick (eqb (piece .number) 0) (queueOf old (piece .cell)) 0
+
+-- what they are worked out from
 module _ (old : Corridor) (piece : Piece) where
-  pub shared-from : (jam : ℕ) {share : Share} {row : Row} {count rest : ℕ} → share ≡ byHand count (row .jam) jam rest → count ≡ countOf old (piece .cell) → row ≡ rowOf old (piece .cell) → rest ≡ restBefore old piece
-      → share ≡ byHand (countOf old (piece .cell)) (rowOf old (piece .cell) .jam) jam (restBefore old piece)
+  pub shared-from : (jam : ℕ) {share : Share} {row : Row} {count rest : ℕ} → share ≡ byHand count (row .jam) jam rest
+      → count ≡ countOf old (piece .cell) → row ≡ rowOf old (piece .cell) → rest ≡ restBefore old piece → share ≡ handShare old piece jam
   shared-from jam share count row rest = share ∙ rw (count, row, rest)
 
-  pub queue-from : {queue waits n : ℕ} → queue ≡ pick (eqb (piece .number) 0) waits 0 → waits ≡ queueAt n (old .state) (piece .cell) → n ≡ cellsOf old → queue ≡ pick (eqb (piece .number) 0) (queueOf old (piece .cell)) 0
+  pub queue-from : {queue waits n : ℕ} → queue ≡ pick (eqb (piece .number) 0) waits 0 → waits ≡ queueAt n (old .state) (piece .cell)
+      → n ≡ cellsOf old → queue ≡ ownQueue old piece
   queue-from queue waits n = queue ∙ rw (waits, n)
 
 -- a piece that is shared out by hand from what is left before it is filled as the rule has it
-module _ (old : Corridor) (piece : Piece) (jam : ℕ) {share : Share} (work : Cuttable old piece jam) (is : share ≡ byHand (countOf old (piece .cell)) (rowOf old (piece .cell) .jam) jam (restBefore old piece)) where
+module _ (old : Corridor) (piece : Piece) (jam : ℕ) {share : Share} (work : Cuttable old piece jam) (is : share ≡ handShare old piece jam) where
   abbrev n : ℕ
   n = countOf old (piece .cell)
 
@@ -48,7 +56,8 @@ module _ (old : Corridor) (piece : Piece) (jam : ℕ) {share : Share} (work : Cu
   pub share-is-held : share .vehicles ≤ n
   share-is-held = rw share-as-ruled (omega (arith, share-at-most n J (piece .before + jam) (work .some) (work .within)))
 
-  pub fills : {queue : ℕ} → queue ≡ pick (eqb (piece .number) 0) (queueOf old (piece .cell)) 0 → record { cell = record { count = share .vehicles; queue = queue }; rest = share .rest } ≡ filled old piece jam
+  pub fills : {queue : ℕ} → queue ≡ ownQueue old piece
+      → record { cell = record { count = share .vehicles; queue = queue }; rest = share .rest } ≡ filled old piece jam
   unfolding pieceCell
   fills queue-is = rw (share-as-ruled, queue-is)
 

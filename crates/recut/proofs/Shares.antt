@@ -1,7 +1,8 @@
 -- The shares of a cut cell: they grow with C, never pass the whole, and are what the steps by hand give. Assumes nothing.
 use Prim.Native.Nat.{ℕ, _+_, _-_, _*_, _/_, _%_, _≤_, _<_}
 use mathlib.Core.Path.{_≡_, sym, ap, _∙_}
-use native.Mathlib.Nat.{mul-le-mul, mul-le-mul-left, div-mul-le-self, le-div-iff-mul-le, div-le-of-le-mul, mul-comm, mul-zero, mul-add, add-mul, zero-div, zero-mod, mod-add-div', mod-lt, mod-eq-of-lt, div-eq-of-lt, div-le-self, mul-mod-left, add-mul-div-right, add-mul-mod-self-right}
+use native.Mathlib.Nat.{mul-le-mul, mul-le-mul-left, mul-comm, mul-zero, mul-add, add-mul, mul-mod-left, add-mul-div-right, add-mul-mod-self-right}
+use native.Mathlib.Nat.{div-mul-le-self, le-div-iff-mul-le, div-le-of-le-mul, div-eq-of-lt, div-le-self, zero-div, zero-mod, mod-add-div', mod-lt, mod-eq-of-lt}
 use native.Mathlib.Omega.{arith}
 use borrow.Author.Tests.{ne-eqb}
 use Rattle.recut.specs.declared.Share.{Share}

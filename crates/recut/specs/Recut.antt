@@ -1,16 +1,15 @@
 -- Rules, "Re-cut": the new state, and what is refused.
 use Prim.Native.Nat.{ℕ, _+_, _-_, _*_, _/_, _%_}
-use mathlib.Core.Path.{_≡_}
 use mathlib.Core.List.{List}
 use lib.Dec.{eqb}
 use Rattle.whole.specs.Search.{pick}
 use Rattle.refusals.specs.declared.Answer.{Answer}
-use Rattle.refusals.specs.Checks.{Check, answer, whenAccepted}
+use Rattle.refusals.specs.Checks.{Check}
 use Rattle.layout.specs.declared.Cell.{Cell}
 use Rattle.layout.specs.Layout.{cells, rowAt, stateOf}
 use Rattle.layout.specs.Corridor.{Corridor, corridorOf, rowOf, entryQueueOf, countOf, queueOf}
 use Rattle.recut_checks.specs.declared.Change.the-variants.{Cut}
-use Rattle.recut_checks.specs.Change.{checksOf}
+use Rattle.recut_checks.specs.Change.{checksOf, ChangeDone}
 use Rattle.recut.specs.declared.Piece.{Piece}
 use Rattle.recut.specs.declared.Share.{Share}
 use Rattle.recut.specs.Pieces.{pieceAt}
@@ -50,6 +49,5 @@ abbrev pub recutChecks : Corridor → List ℕ → List ℕ → List ℕ → Lis
 recutChecks = checksOf Cut
 
 -- what a re-cut answers and leaves
-pub record RecutDone (old : Corridor) (pieces new list : List ℕ) (a : Answer) (left : List ℕ) : Type 0 where
-  pub answered : a ≡ answer (recutChecks old pieces new list)
-  pub leaves : left ≡ whenAccepted (answer (recutChecks old pieces new list)) (newState old pieces new) list
+abbrev pub RecutDone : Corridor → List ℕ → List ℕ → List ℕ → Answer → List ℕ → Type 0
+RecutDone old pieces new list = ChangeDone (recutChecks old pieces new list) (newState old pieces new) list

@@ -17,10 +17,11 @@ use Rattle.layout.specs.Corridor.{Corridor}
 use Rattle.accept_tables.specs.Tables.{tableLengthFits, bothTables, bothTablesChecks}
 use Rattle.accept_rows.specs.Acceptance.{stateInRange, stateAloneChecks}
 use Rattle.recut_checks.specs.Pieces.{piecesNumber}
-use Rattle.recut_checks.specs.Change.{changeListsFit, changeChecks, withPieces}
+use Rattle.recut_checks.specs.Change.{changeListsFit, changeChecks, withPieces, ChangeDone}
 use Rattle.recut_checks.proofs.Accepted.{ListsFit}
 
-pub lists-refused : (old : Corridor) (counts : List ℕ) (many : ℕ) (new list : List ℕ) → changeListsFit old counts many new list ≡ false → Refused Length ≡ answer (changeChecks old counts many new list)
+pub lists-refused : (old : Corridor) (counts : List ℕ) (many : ℕ) (new list : List ℕ) → changeListsFit old counts many new list ≡ false
+    → Refused Length ≡ answer (changeChecks old counts many new list)
 lists-refused old counts many new list e =
     length-fails (bothTables (old .table) new ++ (stateInRange old ∷ [])) (tableLengthFits (old .table) && tableLengthFits new) e
 
@@ -59,3 +60,11 @@ module _ (give : ℕ → Refusal) (old : Corridor) (pieces new list whole parts 
 
     pub pieces-accepted : n < at → Accepted ≡ answer (withPieces give old pieces new list whole parts)
     pieces-accepted past = accepted-goes-on change (number ∷ []) changes (passes number found (omega (arith, n-is)) refl)
+
+-- how a change ends
+module _ {checks : List Check} {made list : List ℕ} where
+  pub ends-refused : {refusal : Refusal} → Refused refusal ≡ answer checks → ChangeDone checks made list (Refused refusal) list
+  ends-refused e = record { answered = e; leaves = rw (← e) }
+
+  pub ends-accepted : {left : List ℕ} → Accepted ≡ answer checks → left ≡ made → ChangeDone checks made list Accepted left
+  ends-accepted e is = record { answered = e; leaves = rw (← e) is }

@@ -12,6 +12,7 @@ use Rattle.whole.proofs.Search.{Passes, passes-every}
 use Rattle.whole.proofs.Tests.{both-hold}
 use Rattle.layout.specs.Layout.{cells, rowAt}
 use Rattle.recut_checks.specs.Pieces.{pieceCount, firstPiece, jamBefore, keepsOnRamp, keepsOffRamp, noOtherRamp, piecesFit, cellHasPieces, piecesHold}
+use Rattle.recut_checks.specs.Private.{leastMisfit}
 
 -- the sum of J up to and with a piece is that of one piece more
 pub jams-more : (parts : List ℕ) (first k j : ℕ) {before : ℕ} → j ≡ first + k → before ≡ jamBefore parts first k → before + rowAt parts j .jam ≡ jamBefore parts first (k + 1)
@@ -66,8 +67,8 @@ pieced whole pieces parts all =
 
 -- the least place: 0 where the counts do not sum, else that of the least cell, counted from 1
 module _ (whole pieces parts : List ℕ) {sums : Bool} (is : sums ≡ eqb (firstPiece pieces (cells whole)) (cells parts)) where
-  pub counts-fail : not sums ≡ true → 0 ≡ firstFailing (cells whole + 1) (piecesHold whole pieces parts)
+  pub counts-fail : not sums ≡ true → 0 ≡ leastMisfit whole pieces parts
   counts-fail fail = rw (add-one (cells whole), sym is ∙ not-true _ fail)
 
-  pub cell-found : {i : ℕ} → not sums ≡ false → i ≡ firstFailing (cells whole) (cellHasPieces whole pieces parts) → i + 1 ≡ firstFailing (cells whole + 1) (piecesHold whole pieces parts)
+  pub cell-found : {i : ℕ} → not sums ≡ false → i ≡ firstFailing (cells whole) (cellHasPieces whole pieces parts) → i + 1 ≡ leastMisfit whole pieces parts
   cell-found {i} hold found = rw (add-one (cells whole), add-one i, sym is ∙ not-false _ hold) (ap suc found)

@@ -1,13 +1,15 @@
 -- Rules, "Re-cut", "Join" and "Refusal numbers" 1 to 5, 8 and 14: what is asked of a change from an old table and state to a new table, with a list
 -- of counts and the list for the new state.
 use Prim.Native.Nat.{ℕ}
+use mathlib.Core.Path.{_≡_}
 use mathlib.Core.Bool.{Bool, _&&_}
 use mathlib.Core.List.{List, [], _∷_, _++_}
 use lib.Dec.{eqb}
 use lib.ListN.{length}
 use Rattle.refusals.specs.declared.Refusal.{Refusal}
 use Rattle.refusals.specs.declared.Refusal.the-variants.{Pieces, Groups}
-use Rattle.refusals.specs.Checks.{Check, lengths}
+use Rattle.refusals.specs.declared.Answer.{Answer}
+use Rattle.refusals.specs.Checks.{Check, answer, whenAccepted, lengths}
 use Rattle.layout.specs.Layout.{cells, stateLength}
 use Rattle.layout.specs.Corridor.{Corridor, cellsOf}
 use Rattle.accept_tables.specs.Tables.{tableLengthFits, bothTables}
@@ -48,3 +50,8 @@ withPieces give old counts new list whole parts =
 abbrev pub checksOf : Change → Corridor → List ℕ → List ℕ → List ℕ → List Check
 checksOf change old counts new list =
     withPieces (refusalOf change) old counts new list (wholeOf change (old .table) new) (partsOf change (old .table) new)
+
+-- what it answers, and what it leaves in the list for the new state, which is made where it is accepted
+pub record ChangeDone (checks : List Check) (made list : List ℕ) (a : Answer) (left : List ℕ) : Type 0 where
+  pub answered : a ≡ answer checks
+  pub leaves : left ≡ whenAccepted (answer checks) made list

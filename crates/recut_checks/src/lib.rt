@@ -1,12 +1,10 @@
 // What a re-cut and a join ask: numbers 1 to 5 of their lists, and that the cells of one table are the pieces of the other's.
-ghost use Prim.Native.Nat.{_+_};
 ghost use mathlib.Core.Path.{_≡_};
-ghost use Rattle.whole.specs.Search.{firstFailing};
 ghost use Rattle.layout.specs.Layout.{cells};
 ghost use Rattle.layout.specs.Corridor.{corridorOf};
 ghost use Rattle.refusals.specs.Checks.{answer};
-ghost use Rattle.recut_checks.specs.Pieces.{piecesHold};
 ghost use Rattle.recut_checks.specs.Change.{wholeOf, partsOf, refusalOf, changeListsFit, changeChecks, checksOf};
+ghost use Rattle.recut_checks.specs.Private.{leastMisfit};
 
 mod pieces;
 
@@ -61,7 +59,7 @@ fn accept_lists(
 // The least place where the cells of the second table are not the pieces of those of the first by the rules: 0 for the sum of the counts,
 // or a whole cell, counted from 1. It is past the last cell where there is none.
 fn misfit(whole: &[u32], pieces: &[u32], parts: &[u32]) -> usize
-    ensures { λ r. ⌜ r ≡ firstFailing (cells (now (whole .entry)) + 1) (piecesHold (now (whole .entry)) (now (pieces .entry)) (now (parts .entry))) ⌝ }
+    ensures { λ r. ⌜ r ≡ leastMisfit (now (whole .entry)) (now (pieces .entry)) (now (parts .entry)) ⌝ }
 {
     if !pieces::counts_sum(pieces, cells(whole), cells(parts)) {
         return 0;
@@ -81,7 +79,7 @@ fn whole_cells(change: Change, old: &[u32], new: &[u32]) -> usize
 
 // The least place where a change breaks the rules of pieces.
 fn misfit_of(change: Change, old: &[u32], counts: &[u32], new: &[u32]) -> usize
-    ensures { λ r. ⌜ r ≡ firstFailing (cells (wholeOf change (now (old .entry)) (now (new .entry))) + 1) (piecesHold (wholeOf change (now (old .entry)) (now (new .entry))) (now (counts .entry)) (partsOf change (now (old .entry)) (now (new .entry)))) ⌝ }
+    ensures { λ r. ⌜ r ≡ leastMisfit (wholeOf change (now (old .entry)) (now (new .entry))) (now (counts .entry)) (partsOf change (now (old .entry)) (now (new .entry))) ⌝ }
 {
     match change {
         Change::Cut => misfit(old, counts, new),

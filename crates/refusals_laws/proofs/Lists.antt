@@ -30,7 +30,7 @@ use Rattle.calibrate_rows.specs.Rows.{settingUsable, valuesFit, makingChecks}
 use Rattle.calibrate_fit.specs.declared.Settings.{Settings}
 use Rattle.calibrate_fit.specs.Calibration.{samplesUsable, diagramFits, fitChecks, calibrationChecks}
 use Rattle.refusals_laws.specs.Lowest.{LowestNumber, SmallestPlace}
-use Rattle.refusals_laws.proofs.Lowest.{Numbered, lowest-number, smallest-place}
+use Rattle.refusals_laws.proofs.Lowest.{Numbered, Ascending, lowest-number, smallest-place}
 
 -- the number of each check, and that its places ascend
 one : (fit : Bool) → Numbered 1 (lengths fit)
@@ -164,7 +164,10 @@ module _ (c : Corridor) {refusal : Refusal} where
       → let checks = changeChecks c counts many new list ++ (last ∷ []) in answer checks ≡ Refused refusal → LowestNumber checks refusal
   change-lowest counts many new list {last} {number} after numbered =
       lowest-number 1 (1 ∷ 2 ∷ 2 ∷ 3 ∷ 3 ∷ 4 ∷ 4 ∷ 5 ∷ number ∷ []) (changeChecks c counts many new list ++ (last ∷ []))
-      (omega arith, (one _, (omega arith, (two (c .table), (omega arith, (two new, (omega arith, (three (c .table), (omega arith, (three new, (omega arith, (four (c .table), (omega arith, (four new, (omega arith, (five c, (after, (numbered, tt))))))))))))))))))
+      (omega arith, (one _, (omega arith, (two (c .table), (omega arith, (two new, (omega arith, (three (c .table), (omega arith, (three new, later))))))))))
+    where
+      later : Ascending 3 (4 ∷ 4 ∷ 5 ∷ number ∷ []) (rampsOnce (c .table) ∷ rampsOnce new ∷ stateInRange c ∷ last ∷ [])
+      later = (omega arith, (four (c .table), (omega arith, (four new, (omega arith, (five c, (after, (numbered, tt))))))))
 
   pub recut-lowest : (pieces new list : List ℕ) → answer (recutChecks c pieces new list) ≡ Refused refusal → LowestNumber (recutChecks c pieces new list) refusal
   recut-lowest pieces new list = change-lowest pieces (cellsOf c) new list (omega arith) (eight (c .table) pieces new)

@@ -3,7 +3,7 @@ use borrow.Author.Needs.{needs}
 use native.Mathlib.Omega.{arith}
 use Rattle.layout.specs.Corridor.{corridorOf}
 use Rattle.figwimple.proofs.Places.{join-placed}
-use Rattle.figwimple.proofs.Called.{fits-as, join-called}
+use Rattle.figwimple.proofs.Called.{fits-as, change-called}
 use Rattle.figwimple.proofs.figwimple_join.Statement.{statement}
 use Rattle.figwimple.proofs.figwimple_join.Tie as tie
 
@@ -13,7 +13,7 @@ word-requires c κs =
     (omega arith, fits-as (c .before .before .join .ensures .answered) (join-placed (corridorOf (lists .old .now) (lists .state .now)) (lists .groups .now) (lists .new .now) (lists .list .now)))
 
 returns : tie.Need-returns
-returns c = join-called (c .before .before .before .join .ensures) (c .word .ensures)
+returns c = change-called (c .before .before .before .join .ensures) (c .word .ensures)
 
 pub figwimple-join-spec : {M : Type 1} → statement M
 figwimple-join-spec =

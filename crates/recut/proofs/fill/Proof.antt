@@ -2,10 +2,8 @@
 use mathlib.Core.Path.{_≡_}
 use native.Mathlib.Omega.{arith}
 use borrow.Author.Needs.{needs}
-use Rattle.layout.specs.Corridor.{Corridor, corridorOf, rowOf, countOf}
-use Rattle.recut.specs.Recut.{byHand}
-use Rattle.recut.specs.Private.{restBefore}
-use Rattle.recut.proofs.Cutting.{shared-from, queue-from, share-is-held, fills}
+use Rattle.layout.specs.Corridor.{Corridor, corridorOf}
+use Rattle.recut.proofs.Cutting.{handShare, shared-from, queue-from, share-is-held, fills}
 use Rattle.recut.proofs.fill.Statement.{statement}
 use Rattle.recut.proofs.fill.Tie as tie
 
@@ -17,8 +15,7 @@ corridor c = corridorOf (begin c .args .old .now) (begin c .args .state .now)
 
 -- what the share is worked out from
 told : (c : tie.After-share-by-hand) → let given = begin c .args in
-    let i = given .piece .cell in
-    c .share-by-hand .result ≡ byHand (countOf (corridor c) i) (rowOf (corridor c) i .jam) (given .jam) (restBefore (corridor c) (given .piece))
+    c .share-by-hand .result ≡ handShare (corridor c) (given .piece) (given .jam)
 told c =
     let given = begin c .args in
     shared-from (corridor c) (given .piece) (given .jam) (c .share-by-hand .ensures) (c .before .count-at .ensures) (c .before .before .row-at .ensures) (begin c .pre .1)

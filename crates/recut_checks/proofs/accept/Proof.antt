@@ -43,8 +43,9 @@ returns-2 c =
     let lists = told .before .before in
     let a = begin lists .args in
     let n-is = lists .before .whole-cells .ensures in
+    let found = c .before .before .misfit-of .ensures in
     rw (c .refusal-of .ensures)
-    (pieces-refused (refusalOf (a .change)) (corridor lists) (a .counts .now) (a .new .now) (a .list .now) (whole lists) (parts lists) n-is (passed told) (c .before .before .misfit-of .ensures) (c .before .if1 .taken))
+    (pieces-refused (refusalOf (a .change)) (corridor lists) (a .counts .now) (a .new .now) (a .list .now) (whole lists) (parts lists) n-is (passed told) found (c .before .if1 .taken))
 
 returns-3 : tie.Need-returns-3
 returns-3 c =

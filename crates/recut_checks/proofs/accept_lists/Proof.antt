@@ -8,14 +8,19 @@ use Rattle.recut_checks.proofs.Answers.{lists-refused, tables-refused, 
 use Rattle.recut_checks.proofs.accept_lists.Statement.{statement}
 use Rattle.recut_checks.proofs.accept_lists.Tie as tie
 
+abbrev begin : tie.After-change-lists-fit → tie.Start
+begin c = c .before .before .before .before .before .before
+
 returns : tie.Need-returns
 returns c =
-    let a = c .before .before .before .before .before .before .before .args in
+    let a = begin (c .before) .args in
     lists-refused (corridorOf (a .old .now) (a .state .now)) (a .counts .now) (a .many) (a .new .now) (a .list .now) (sym (c .before .change-lists-fit .ensures) ∙ not-true _ (c .if1 .taken))
 
-fits : (c : tie.Else1) → let a = c .before .before .before .before .before .before .before .args in ListsFit (corridorOf (a .old .now) (a .state .now)) (a .counts .now) (a .many) (a .new .now) (a .list .now)
+fits : (c : tie.Else1) →
+    let a = begin (c .before) .args in
+    ListsFit (corridorOf (a .old .now) (a .state .now)) (a .counts .now) (a .many) (a .new .now) (a .list .now)
 fits c =
-    let a = c .before .before .before .before .before .before .before .args in
+    let a = begin (c .before) .args in
     lists-fit (corridorOf (a .old .now) (a .state .now)) (a .counts .now) (a .many) (a .new .now) (a .list .now) (sym (c .before .change-lists-fit .ensures) ∙ not-false _ (c .if1 .left))
 
 returns-2 : tie.Need-returns-2
