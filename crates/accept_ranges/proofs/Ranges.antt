@@ -30,11 +30,13 @@ pub record InRange (r : Row) : Type 0 where
   pub c : Between (withRamp (r .on) 1) (withRamp (r .on) 1_000_000) (r .c)
   pub off : Between 0 65_535 (r .off)
   pub b : Between 0 (withRamp (r .off) 65_535) (r .b)
+  pub dropped : Between 1 (r .capacity) (r .dropped)
 
 pub in-range : (r : Row) → rowInRange r ≡ true → InRange r
 unfolding rowInRange
 in-range r e =
-    let b = both-hold _ _ e in
+    let dropped = both-hold _ _ e in
+    let b = both-hold _ _ (dropped .0) in
     let off = both-hold _ _ (b .0) in
     let c = both-hold _ _ (off .0) in
     let x = both-hold _ _ (c .0) in
@@ -52,6 +54,7 @@ in-range r e =
       c = between _ _ _ (c .1);
       off = between _ _ _ (off .1);
       b = between _ _ _ (b .1);
+      dropped = between _ _ _ (dropped .1);
     }
 
 -- a bound that holds where there is a ramp is at most that bound
@@ -66,12 +69,14 @@ with-ramp-at-most ramp bound = by (eqb ramp 0)
 pub record CellFits (r : Row) (cell : Cell) : Type 0 where
   pub count : cell .count ≤ r .jam
   pub queue : cell .queue ≤ withRamp (r .on) queueLimit
+  pub mode : cell .mode ≤ 1
 
 pub cell-fits : (r : Row) (cell : Cell) → stateFits r cell ≡ true → CellFits r cell
 cell-fits r cell e =
-    let queue = both-hold (leb (cell .count) (r .jam)) _ e in
-    record { count = leb-true _ _ (queue .0); queue = leb-true _ _ (queue .1) }
+    let mode = both-hold (leb (cell .count) (r .jam) && leb (cell .queue) (withRamp (r .on) queueLimit)) _ e in
+    let queue = both-hold (leb (cell .count) (r .jam)) _ (mode .0) in
+    record { count = leb-true _ _ (queue .0); queue = leb-true _ _ (queue .1); mode = leb-true _ _ (mode .1) }
 
 pub fits-cell : (r : Row) (cell : Cell) → CellFits r cell → stateFits r cell ≡ true
 fits-cell r cell fits =
-    λ j. le-leb (cell .count) (r .jam) (fits .count) j && le-leb (cell .queue) (withRamp (r .on) queueLimit) (fits .queue) j
+    λ j. le-leb (cell .count) (r .jam) (fits .count) j && le-leb (cell .queue) (withRamp (r .on) queueLimit) (fits .queue) j && le-leb (cell .mode) 1 (fits .mode) j

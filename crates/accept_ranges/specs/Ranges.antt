@@ -23,17 +23,18 @@ rowInRange r =
     && within (withRamp (r .on) 1) (withRamp (r .on) 1_000_000) (r .c)
     && within 0 65_535 (r .off)
     && within 0 (withRamp (r .off) 65_535) (r .b)
+    && within 1 (r .capacity) (r .dropped)
 
 -- 3: w + x is at most ONE
 abbrev pub roomShared : Row → Bool
 roomShared r = leb (r .w + r .x) ONE
 
--- 5: a queue is at most 1,000,000,000, and 0 where there is no on-ramp; a count is at most J
+-- 5: a queue is at most 1,000,000,000, and 0 where there is no on-ramp; a count is at most J; a mode is 0 or 1
 abbrev pub queueLimit : ℕ
 queueLimit = 1_000_000_000
 
 abbrev pub stateFits : Row → Cell → Bool
-stateFits r cell = leb (cell .count) (r .jam) && leb (cell .queue) (withRamp (r .on) queueLimit)
+stateFits r cell = leb (cell .count) (r .jam) && leb (cell .queue) (withRamp (r .on) queueLimit) && leb (cell .mode) 1
 
 -- 6: a demand is at most 1,000,000; d is 0 without an on-ramp, o is 0 unless an off-ramp has b = 0
 abbrev pub demandLimit : ℕ

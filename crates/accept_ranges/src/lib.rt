@@ -1,4 +1,5 @@
-// The ranges of the numbers of one cell: of its row (numbers 2 and 3), its count and queue (5), its demands (6) and both together (7).
+// The ranges of the numbers of one cell: of its row (numbers 2 and 3), its count, queue and mode (5), its demands (6), and a queue with its
+// demand (7).
 ghost use mathlib.Core.Path.{_≡_};
 ghost use Rattle.accept_ranges.specs.Ranges.{withRamp, rowInRange, roomShared, stateFits, givenOff, demandFits, queueHolds};
 use layout::Cell;
@@ -25,6 +26,7 @@ pub fn row_in_range(row: Row) -> bool
         & within(with_ramp(row.on, 1), with_ramp(row.on, 1_000_000), row.c)
         & within(0, 65_535, row.off)
         & within(0, with_ramp(row.off, 65_535), row.b)
+        & within(1, row.capacity, row.dropped)
 }
 
 // Whether w + x is at most ONE, worked out in 64 bits.
@@ -34,11 +36,11 @@ pub fn room_shared(row: Row) -> bool
     (row.w as u64) + (row.x as u64) <= 65_536
 }
 
-// Whether a cell's count and on-ramp queue are in their ranges.
+// Whether a cell's count, on-ramp queue and mode are in their ranges.
 pub fn state_fits(row: Row, cell: Cell) -> bool
     ensures { λ r. ⌜ r ≡ stateFits row cell ⌝ }
 {
-    (cell.count <= row.jam) & (cell.queue <= with_ramp(row.on, 1_000_000_000))
+    (cell.count <= row.jam) & (cell.queue <= with_ramp(row.on, 1_000_000_000)) & (cell.mode <= 1)
 }
 
 // The most that a row lets an off-ramp's demand be.

@@ -1,4 +1,5 @@
-// The join: consecutive old cells become one new cell, and their vehicles, the first one's queue and the ramps go on under the new table.
+// The join: consecutive old cells become one new cell, and their vehicles, the first one's queue, the last one's mode and the ramps go on
+// under the new table.
 ghost use mathlib.Core.Path.{_≡_};
 ghost use Rattle.layout.specs.Corridor.{corridorOf};
 ghost use Rattle.refusals.specs.Checks.{answer};
@@ -22,11 +23,12 @@ fn group_vehicles(old: &[u32], state: &[u32], first: usize, size: usize) -> u32
     sum
 }
 
-// The vehicles and queues of the old cells, group by group.
+// The vehicles, queues and modes of the old cells, group by group.
 fn add_up(old: &[u32], state: &[u32], groups: &[u32], new: &[u32], list: &mut [u32])
     requires { ⌜ answer (joinChecks (corridorOf (now old) (now state)) (now groups) (now new) (now list)) ≡ Answer.Accepted ⌝ }
     ensures { λ _. ⌜ now (list .exit) ≡ joinedState (corridorOf (now (old .entry)) (now (state .entry))) (now (groups .entry)) (now (new .entry)) ⌝ }
 {
+    let many = cells(old);
     let n = cells(new);
     let mut first = 0;
     let mut j = 0;
@@ -34,7 +36,8 @@ fn add_up(old: &[u32], state: &[u32], groups: &[u32], new: &[u32], list: &mut [u
         let size = groups[j] as usize;
         let cell = Cell {
             count: group_vehicles(old, state, first, size),
-            queue: queue_at(cells(old), state, first),
+            queue: queue_at(many, state, first),
+            mode: last_mode_at(many, state, first + (size - 1)),
         };
         put_cell(list, n, j, cell);
         first += size;

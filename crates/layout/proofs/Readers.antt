@@ -6,7 +6,7 @@ use native.Mathlib.Omega.{arith}
 use lib.ListN.{length}
 use Rattle.layout.specs.declared.Cell.{Cell}
 use Rattle.layout.specs.declared.Demands.{Demands}
-use Rattle.layout.specs.Layout.{stateLength, entryQueue, countAt, queueAt, stateColumns, stateOf, demandLength, entryDemand, onDemandAt, offDemandAt, demandColumns, demandOf}
+use Rattle.layout.specs.Layout.{stateLength, entryQueue, countAt, queueAt, lastModeAt, stateColumns, stateOf, demandLength, entryDemand, onDemandAt, offDemandAt, demandColumns, demandOf}
 use Rattle.layout.specs.Sheet.{sheetLength, flowIn, offFlowIn, onFlowIn, modeIn, sheetColumns, sheetFrom}
 use Rattle.layout.proofs.Laid.{laid-length, laid-filled}
 
@@ -26,6 +26,10 @@ module _ (n entry : ℕ) (cell : ℕ → Cell) where
   pub state-queue : (i : ℕ) → i < n → queueAt n (stateOf n entry cell) i ≡ cell i .queue
   unfolding stateOf
   state-queue i h = laid-filled n entry (stateColumns cell) .1 .0 i h tt
+
+  pub state-mode : (i : ℕ) → i < n → lastModeAt n (stateOf n entry cell) i ≡ cell i .mode
+  unfolding stateOf
+  state-mode i h = laid-filled n entry (stateColumns cell) .1 .1 .0 i h tt
 
 module _ (n entry : ℕ) (demands : ℕ → Demands) where
   pub demand-length : length (demandOf n entry demands) ≡ demandLength n

@@ -34,6 +34,8 @@ use Rattle.layout.proofs.count_at.Kinds as count-at-kinds
 use Rattle.layout.proofs.count_at.Reads as count-at
 use Rattle.layout.proofs.queue_at.Kinds as queue-at-kinds
 use Rattle.layout.proofs.queue_at.Reads as queue-at
+use Rattle.layout.proofs.last_mode_at.Kinds as last-mode-at-kinds
+use Rattle.layout.proofs.last_mode_at.Reads as last-mode-at
 use Rattle.layout.proofs.cell_at.Kinds as cell-at-kinds
 use Rattle.layout.proofs.cell_at.Reads as cell-at
 use Rattle.layout.proofs.entry_demand.Kinds as entry-demand-kinds
@@ -113,6 +115,9 @@ count-at-settles κs a y z e f = settled
 
 pub queue-at-settles : Settles _ queue-at-kinds.ps queue-at-kinds.r queue-at.Learnt
 queue-at-settles κs a y z e f = settled
+
+pub last-mode-at-settles : Settles _ last-mode-at-kinds.ps last-mode-at-kinds.r last-mode-at.Learnt
+last-mode-at-settles κs a y z e f = settled
 
 pub cell-at-settles : Settles _ cell-at-kinds.ps cell-at-kinds.r cell-at.Learnt
 cell-at-settles κs a y z e f = settled

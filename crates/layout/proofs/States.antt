@@ -14,13 +14,13 @@ module _ (n : ℕ) (state : List ℕ) where
   as-it-stands len =
       record {
         len = omega (arith, len);
-        filled = (λ k below meant. refl, (λ k below meant. refl, tt));
+        filled = (λ k below meant. refl, (λ k below meant. refl, (λ k below meant. refl, tt)));
       }
 
   -- a cell that is meant
   pub cell-is : {Meant : ℕ → Type 0} (cells : ℕ → Cell) → Laying Meant n state (stateColumns cells) → (i : ℕ) → i < n → Meant i → cellAt n state i ≡ cells i
   cell-is cells so i h meant =
-      λ j. record { count = so .filled .0 i h meant j; queue = so .filled .1 .0 i h meant j }
+      λ j. record { count = so .filled .0 i h meant j; queue = so .filled .1 .0 i h meant j; mode = so .filled .1 .1 .0 i h meant j }
 
   -- a cell is stored: those that were meant are still, and it is too where it is its own
   pub cell-stored : {Before After : ℕ → Type 0} {i : ℕ} {cell : Cell} (cells : ℕ → Cell) → Laying Before n state (stateColumns cells) → i < n → ((k : ℕ) → After k → (k ≡ i → ⊥) → Before k) → (After i → cell ≡ cells i) → Laying After n (withCell n state i cell) (stateColumns cells)

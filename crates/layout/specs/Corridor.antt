@@ -3,7 +3,7 @@ use Prim.Native.Nat.{ℕ}
 use mathlib.Core.List.{List}
 use Rattle.layout.specs.declared.Row.{Row}
 use Rattle.layout.specs.declared.Cell.{Cell}
-use Rattle.layout.specs.Layout.{cells, rowAt, entryQueue, countAt, queueAt, cellAt}
+use Rattle.layout.specs.Layout.{cells, rowAt, entryQueue, countAt, queueAt, lastModeAt, cellAt}
 
 pub record Corridor : Type 0 where
   pub table : List ℕ
@@ -20,7 +20,7 @@ module _ (c : Corridor) where
   abbrev pub rowOf : ℕ → Row
   rowOf = rowAt (c .table)
 
-  -- Q, n and q
+  -- Q, n, q and the mode of the period before
   abbrev pub entryQueueOf : ℕ
   entryQueueOf = entryQueue (c .state)
 
@@ -29,6 +29,9 @@ module _ (c : Corridor) where
 
   abbrev pub queueOf : ℕ → ℕ
   queueOf = queueAt cellsOf (c .state)
+
+  abbrev pub lastModeOf : ℕ → ℕ
+  lastModeOf = lastModeAt cellsOf (c .state)
 
   abbrev pub cellOf : ℕ → Cell
   cellOf = cellAt cellsOf (c .state)

@@ -12,7 +12,7 @@ use Rattle.layout.specs.Laid.{laid, stored}
 
 -- the numbers of a row
 abbrev pub WIDTH : ℕ
-WIDTH = 9
+WIDTH = 10
 
 -- N, the whole rows of a table
 abbrev pub cells : List ℕ → ℕ
@@ -32,15 +32,16 @@ MOST = 512
 abbrev pub rowAt : List ℕ → ℕ → Row
 rowAt table i =
     record {
-      v = getD table (9 * i + 0) 0;
-      w = getD table (9 * i + 1) 0;
-      capacity = getD table (9 * i + 2) 0;
-      jam = getD table (9 * i + 3) 0;
-      on = getD table (9 * i + 4) 0;
-      x = getD table (9 * i + 5) 0;
-      c = getD table (9 * i + 6) 0;
-      off = getD table (9 * i + 7) 0;
-      b = getD table (9 * i + 8) 0;
+      v = getD table (10 * i + 0) 0;
+      w = getD table (10 * i + 1) 0;
+      capacity = getD table (10 * i + 2) 0;
+      jam = getD table (10 * i + 3) 0;
+      on = getD table (10 * i + 4) 0;
+      x = getD table (10 * i + 5) 0;
+      c = getD table (10 * i + 6) 0;
+      off = getD table (10 * i + 7) 0;
+      b = getD table (10 * i + 8) 0;
+      dropped = getD table (10 * i + 9) 0;
     }
 
 -- the ramp positions of n cells along the road, two a cell: the on-ramp comes before the off-ramp; and the cell of a position
@@ -54,9 +55,9 @@ rampCell k = k / 2
 abbrev pub rampAt : List ℕ → ℕ → ℕ
 rampAt table k = pick (eqb (k % 2) 0) (rowAt table (rampCell k) .on) (rowAt table (rampCell k) .off)
 
--- a state of n cells: the entry queue Q, then the counts, then the on-ramp queues
+-- a state of n cells: the entry queue Q, then the counts, then the on-ramp queues, then the modes of the period before
 abbrev pub stateLength : ℕ → ℕ
-stateLength n = 2 * n + 1
+stateLength n = 3 * n + 1
 
 abbrev pub entryQueue : List ℕ → ℕ
 entryQueue state = getD state 0 0
@@ -67,16 +68,19 @@ countAt state i = getD state (1 + i) 0
 abbrev pub queueAt : ℕ → List ℕ → ℕ → ℕ
 queueAt n state i = getD state (1 + n + i) 0
 
+abbrev pub lastModeAt : ℕ → List ℕ → ℕ → ℕ
+lastModeAt n state i = getD state (1 + n + n + i) 0
+
 -- the cell of index i
 abbrev pub cellAt : ℕ → List ℕ → ℕ → Cell
-cellAt n state i = record { count = countAt state i; queue = queueAt n state i }
+cellAt n state i = record { count = countAt state i; queue = queueAt n state i; mode = lastModeAt n state i }
 
 -- the numbers of a cell, one for each column
 abbrev pub cellNumbers : Cell → List ℕ
-cellNumbers cell = cell .count ∷ cell .queue ∷ []
+cellNumbers cell = cell .count ∷ cell .queue ∷ cell .mode ∷ []
 
 abbrev pub stateColumns : (ℕ → Cell) → List (ℕ → ℕ)
-stateColumns cell = (λ i. cell i .count) ∷ (λ i. cell i .queue) ∷ []
+stateColumns cell = (λ i. cell i .count) ∷ (λ i. cell i .queue) ∷ (λ i. cell i .mode) ∷ []
 
 -- the state with this entry queue and these cells
 unfoldable pub stateOf : ℕ → ℕ → (ℕ → Cell) → List ℕ

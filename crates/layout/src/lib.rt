@@ -4,7 +4,7 @@ ghost use mathlib.Core.Path.{_≡_};
 ghost use Prim.Native.Nat.{_+_, _*_, _<_};
 ghost use lib.ListN.{length};
 ghost use Rattle.layout.specs.Laid.{Space, withEntry};
-ghost use Rattle.layout.specs.Layout.{WIDTH, Listed, MOST, cells, tableLength, rowAt, rampPositions, rampCell, rampAt, stateLength, entryQueue, countAt, queueAt, cellAt, withCell, demandLength, entryDemand, onDemandAt, offDemandAt, withDemands};
+ghost use Rattle.layout.specs.Layout.{WIDTH, Listed, MOST, cells, tableLength, rowAt, rampPositions, rampCell, rampAt, stateLength, entryQueue, countAt, queueAt, lastModeAt, cellAt, withCell, demandLength, entryDemand, onDemandAt, offDemandAt, withDemands};
 
 pub mod sheet;
 
@@ -19,12 +19,14 @@ pub struct Row {
     pub c: u32,
     pub off: u32,
     pub b: u32,
+    pub dropped: u32,
 }
 
-// What a state holds of one cell: the count n and the on-ramp queue q.
+// What a state holds of one cell: the count n, the on-ramp queue q and the mode of the period before.
 pub struct Cell {
     pub count: u32,
     pub queue: u32,
+    pub mode: u32,
 }
 
 // What a demand row brings to one cell: the on-ramp demand d and the off-ramp demand o.
@@ -37,14 +39,14 @@ pub struct Demands {
 pub fn width() -> usize
     ensures { λ r. ⌜ r ≡ WIDTH ⌝ }
 {
-    9
+    10
 }
 
 // N, the whole rows of a table.
 pub fn cells(table: &[u32]) -> usize
     ensures { λ r. ⌜ r ≡ cells (now (table .entry)) ⌝ }
 {
-    table.len() / 9
+    table.len() / 10
 }
 
 // The lengths of the lists of n cells.
@@ -53,14 +55,14 @@ pub fn table_length(n: usize) -> usize
     requires { ⌜ Listed n ⌝ }
     ensures { λ r. ⌜ r ≡ tableLength n ⌝ }
 {
-    9 * n
+    10 * n
 }
 
 pub fn state_length(n: usize) -> usize
     requires { ⌜ Listed n ⌝ }
     ensures { λ r. ⌜ r ≡ stateLength n ⌝ }
 {
-    1 + n + n
+    1 + n + n + n
 }
 
 pub fn demand_length(n: usize) -> usize
@@ -72,16 +74,16 @@ pub fn demand_length(n: usize) -> usize
 
 // Room for the lists of 512 cells.
 
-pub fn table_space() -> [u32; 4_608]
+pub fn table_space() -> [u32; 5_120]
     ensures { λ r. ⌜ Space (tableLength MOST) r ⌝ }
 {
-    [0; 4_608]
+    [0; 5_120]
 }
 
-pub fn state_space() -> [u32; 1_025]
+pub fn state_space() -> [u32; 1_537]
     ensures { λ r. ⌜ Space (stateLength MOST) r ⌝ }
 {
-    [0; 1_025]
+    [0; 1_537]
 }
 
 pub fn demand_space() -> [u32; 1_025]
@@ -96,15 +98,16 @@ pub fn row_at(table: &[u32], i: usize) -> Row
     ensures { λ r. ⌜ r ≡ rowAt (now (table .entry)) i ⌝ }
 {
     Row {
-        v: table[9 * i + 0],
-        w: table[9 * i + 1],
-        capacity: table[9 * i + 2],
-        jam: table[9 * i + 3],
-        on: table[9 * i + 4],
-        x: table[9 * i + 5],
-        c: table[9 * i + 6],
-        off: table[9 * i + 7],
-        b: table[9 * i + 8],
+        v: table[10 * i + 0],
+        w: table[10 * i + 1],
+        capacity: table[10 * i + 2],
+        jam: table[10 * i + 3],
+        on: table[10 * i + 4],
+        x: table[10 * i + 5],
+        c: table[10 * i + 6],
+        off: table[10 * i + 7],
+        b: table[10 * i + 8],
+        dropped: table[10 * i + 9],
     }
 }
 
@@ -153,6 +156,14 @@ pub fn queue_at(n: usize, state: &[u32], i: usize) -> u32
     state[1 + n + i]
 }
 
+// The mode of the cell of index i in the period before.
+pub fn last_mode_at(n: usize, state: &[u32], i: usize) -> u32
+    requires { ⌜ 1 + n + n + i < length (now state) ⌝ }
+    ensures { λ r. ⌜ r ≡ lastModeAt n (now (state .entry)) i ⌝ }
+{
+    state[1 + n + n + i]
+}
+
 // The cell of index i in a state.
 pub fn cell_at(n: usize, state: &[u32], i: usize) -> Cell
     requires { ⌜ (i < n) × (length (now state) ≡ stateLength n) ⌝ }
@@ -161,6 +172,7 @@ pub fn cell_at(n: usize, state: &[u32], i: usize) -> Cell
     Cell {
         count: state[1 + i],
         queue: state[1 + n + i],
+        mode: state[1 + n + n + i],
     }
 }
 
@@ -171,6 +183,7 @@ pub fn put_cell(state: &mut [u32], n: usize, i: usize, cell: Cell)
 {
     state[1 + i] = cell.count;
     state[1 + n + i] = cell.queue;
+    state[1 + n + n + i] = cell.mode;
 }
 
 pub fn entry_demand(demand: &[u32]) -> u32

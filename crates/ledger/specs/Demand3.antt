@@ -4,7 +4,7 @@ use Prim.Native.Nat.{ℕ, _+_, _≤_, _<_}
 use mathlib.Core.Path.{_≡_}
 use mathlib.Core.List.{List}
 use Rattle.layout.specs.Layout.{rampPositions, rampAt}
-use Rattle.layout.specs.Corridor.{Corridor, cellsOf, rowOf, entryQueueOf, countOf, queueOf}
+use Rattle.layout.specs.Corridor.{Corridor, cellsOf, rowOf, entryQueueOf, countOf, queueOf, lastModeOf}
 use Rattle.accept_ranges.specs.Ranges.{withRamp, queueLimit}
 use Rattle.accept_rows.specs.Vehicles.{vehicles}
 use Rattle.period.specs.Sharing.{Sharing}
@@ -20,6 +20,8 @@ pub record Holds (start left : Corridor) (account : Account) : Type 0 where
   -- The entry's queue is within its range, and so is each on-ramp's, which is 0 where there is no on-ramp.
   pub entryQueue : entryQueueOf left ≤ queueLimit
   pub rampQueues : (i : ℕ) → i < cellsOf left → queueOf left i ≤ withRamp (rowOf left i .on) queueLimit
+  -- Each cell's mode is 0 or 1.
+  pub modes : (i : ℕ) → i < cellsOf left → lastModeOf left i ≤ 1
   -- A ramp number that stands at two positions along the road is 0, no ramp.
   pub rampsOnce : (j k : ℕ) → j < k → k < rampPositions (cellsOf left) → rampAt (left .table) j ≡ rampAt (left .table) k → rampAt (left .table) k ≡ 0
   -- Vehicles in cells and queues, with all that left by off-ramps and the last cell, are those at the start with all accepted demand.

@@ -12,16 +12,17 @@ use Rattle.refusals.specs.declared.Answer.the-variants.{Accepted}
 use Rattle.refusals.specs.Checks.{Check, answer, whenAccepted, lengths}
 use Rattle.layout.specs.Layout.{entryDemand, onDemandAt, offDemandAt}
 use Rattle.layout.specs.Sheet.{sheetLength, sheetFrom}
-use Rattle.layout.specs.Corridor.{Corridor, corridorOf, cellsOf, rowOf, entryQueueOf, countOf, queueOf}
+use Rattle.layout.specs.Corridor.{Corridor, corridorOf, cellsOf, rowOf, entryQueueOf, countOf, queueOf, lastModeOf}
 use Rattle.accept_rows.specs.Acceptance.{rowLengthsFit, stateNumbers, demandNumbers, rowChecks}
 use Rattle.period.specs.Cell.{M, offFlow, modeOf}
 use Rattle.period.specs.declared.Passed.{Passed}
 use Rattle.period.specs.Sharing.{Sharing}
 use Rattle.period.specs.Updated.{updated}
 
--- F, the capacity that holds for a cell now, and c, the limit that holds for an on-ramp now
+-- F, the capacity that holds for a cell now: the dropped one where the cell's mode in the period before was 1; and c, the limit that holds for
+-- an on-ramp now
 abbrev pub capacityNow : Corridor → ℕ → ℕ
-capacityNow c i = rowOf c i .capacity
+capacityNow c i = pick (eqb (lastModeOf c i) 1) (rowOf c i .dropped) (rowOf c i .capacity)
 
 abbrev pub limitNow : Corridor → ℕ → ℕ
 limitNow c i = rowOf c i .c

@@ -29,10 +29,11 @@ module _ (way : Sharing) (c : Corridor) (demand : List ℕ) (n : ℕ) (sheet : L
   lastPassed i =
       withOffFlow n (withMode n (withFlow sheet (suc i) (flowAt way c demand (suc i))) i (modeAt way c demand i)) i (offFlowAt way c demand i)
 
--- what reading the cell of index i asks of the corridor
-pub record Readable (c : Corridor) (i : ℕ) : Type 0 where
-  pub inside : i < cellsOf c
-  pub state-length : length (c .state) ≡ stateLength (cellsOf c)
+-- what reading the cell of index i, one of n, asks of the corridor
+pub record Readable (n : ℕ) (c : Corridor) (i : ℕ) : Type 0 where
+  pub all : n ≡ cellsOf c
+  pub inside : i < n
+  pub state-length : length (c .state) ≡ stateLength n
 
 -- what the work on the cell of index i, one of n, asks of the corridor and the demand row
 pub record Workable (n : ℕ) (c : Corridor) (demand : List ℕ) (i : ℕ) : Type 0 where

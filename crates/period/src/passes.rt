@@ -17,11 +17,16 @@ use layout::*;
 use whole::least;
 
 // F of the cell of index i, as it holds now.
-fn capacity_now(table: &[u32], state: &[u32], i: usize) -> u32
-    requires { ⌜ Readable (corridorOf (now table) (now state)) i ⌝ }
+fn capacity_now(n: usize, table: &[u32], state: &[u32], i: usize) -> u32
+    requires { ⌜ Readable n (corridorOf (now table) (now state)) i ⌝ }
     ensures { λ r. ⌜ r ≡ capacityNow (corridorOf (now (table .entry)) (now (state .entry))) i ⌝ }
 {
-    row_at(table, i).capacity
+    let row = row_at(table, i);
+    if last_mode_at(n, state, i) == 1 {
+        row.dropped
+    } else {
+        row.capacity
+    }
 }
 
 // c of the cell of index i, as it holds now.
@@ -82,7 +87,7 @@ fn send(
     ensures sends { λ r. ⌜ r ≡ flowAt asymmetric (corridorOf (now (table .entry)) (now (state .entry))) (now (demand .entry)) (suc i) ⌝ }
     ensures stores { λ _. ⌜ now (sheet .exit) ≡ cellSent asymmetric (corridorOf (now (table .entry)) (now (state .entry))) (now (demand .entry)) n (now (sheet .entry)) i ⌝ }
 {
-    let capacity = capacity_now(table, state, i);
+    let capacity = capacity_now(n, table, state, i);
     let a = least(m, capacity as u64) as u32;
     let passed = pass_node(n, table, state, demand, sheet, i + 1, a);
     put_mode(sheet, n, i, mode(m, capacity, passed.clear));
@@ -123,7 +128,7 @@ fn pass_last(n: usize, table: &[u32], state: &[u32], demand: &[u32], sheet: &mut
     let count = count_at(state, i);
     let o = off_demand_at(n, demand, i);
     let m = would_send(row, count, o);
-    let capacity = capacity_now(table, state, i);
+    let capacity = capacity_now(n, table, state, i);
     let f = least(m, capacity as u64);
     put_flow(sheet, i + 1, f as u32);
     put_mode(sheet, n, i, mode(m, capacity, true));
@@ -157,6 +162,7 @@ fn cell_after(n: usize, state: &[u32], demand: &[u32], sheet: &[u32], i: usize) 
     Cell {
         count: comes - (flow_in(sheet, i + 1) + off_flow_in(n, sheet, i)),
         queue: queue_at(n, state, i) + on_demand_at(demand, i) - r,
+        mode: mode_in(n, sheet, i),
     }
 }
 

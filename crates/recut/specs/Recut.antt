@@ -7,8 +7,9 @@ use Rattle.refusals.specs.declared.Answer.{Answer}
 use Rattle.refusals.specs.Checks.{Check}
 use Rattle.layout.specs.declared.Cell.{Cell}
 use Rattle.layout.specs.Layout.{cells, rowAt, stateOf}
-use Rattle.layout.specs.Corridor.{Corridor, corridorOf, rowOf, entryQueueOf, countOf, queueOf}
+use Rattle.layout.specs.Corridor.{Corridor, corridorOf, rowOf, entryQueueOf, countOf, queueOf, lastModeOf}
 use Rattle.recut_checks.specs.declared.Change.the-variants.{Cut}
+use Rattle.recut_checks.specs.Pieces.{pieceCount}
 use Rattle.recut_checks.specs.Change.{checksOf, ChangeDone}
 use Rattle.recut.specs.declared.Piece.{Piece}
 use Rattle.recut.specs.declared.Share.{Share}
@@ -25,17 +26,18 @@ divided all J = pick (eqb J 0) (record { vehicles = 0; rest = 0 }) (record { veh
 abbrev pub byHand : ℕ → ℕ → ℕ → ℕ → Share
 byHand n J jam rest = divided (n * jam + rest) J
 
--- what a piece of that jam count becomes: its vehicles, and the on-ramp queue, which goes to the first piece
-unfoldable pub pieceCell : Corridor → Piece → ℕ → Cell
-pieceCell old piece jam =
+-- what a piece of that jam count becomes: its vehicles; the on-ramp queue, which goes to the first piece; the mode, which goes to the last
+unfoldable pub pieceCell : Corridor → List ℕ → Piece → ℕ → Cell
+pieceCell old pieces piece jam =
     record {
       count = pieceVehicles (countOf old (piece .cell)) (rowOf old (piece .cell) .jam) (piece .before) jam;
       queue = pick (eqb (piece .number) 0) (queueOf old (piece .cell)) 0;
+      mode = pick (eqb (piece .number + 1) (pieceCount pieces (piece .cell))) (lastModeOf old (piece .cell)) 0;
     }
 
 module _ (old : Corridor) (pieces new : List ℕ) where
   abbrev pub newCell : ℕ → Cell
-  newCell j = pieceCell old (pieceAt pieces new j) (rowAt new j .jam)
+  newCell j = pieceCell old pieces (pieceAt pieces new j) (rowAt new j .jam)
 
   -- Q is kept
   abbrev pub newState : List ℕ

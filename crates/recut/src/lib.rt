@@ -1,5 +1,5 @@
-// The re-cut: each old cell becomes consecutive new cells, and its vehicles, its queue and its ramps go on under the new table.
-ghost use Prim.Native.Nat.{_≤_, _<_};
+// The re-cut: each old cell becomes consecutive new cells, and its vehicles, its queue, its mode and its ramps go on under the new table.
+ghost use Prim.Native.Nat.{_+_, _≤_, _<_};
 ghost use mathlib.Core.Path.{_≡_};
 ghost use lib.Dec.{eqb};
 ghost use lib.ListN.{length};
@@ -79,19 +79,30 @@ fn piece_queue(number: usize, queue: u32) -> u32
     if number == 0 { queue } else { 0 }
 }
 
+// What the piece of that number, one of so many, gets of its cell's mode: the last piece has it.
+fn piece_mode(number: usize, count: usize, mode: u32) -> u32
+    requires { ⌜ number < MOST ⌝ }
+    ensures { λ r. ⌜ r ≡ pick (eqb (number + 1) count) mode 0 ⌝ }
+{
+    if number + 1 == count { mode } else { 0 }
+}
+
 // What a piece of the given jam count becomes, with the remainder that the piece before it left.
-fn fill(old: &[u32], state: &[u32], piece: Piece, jam: u32, rest: u32) -> Filled
-    requires { ⌜ Cuttable (corridorOf (now old) (now state)) piece jam ⌝ }
+fn fill(old: &[u32], state: &[u32], pieces: &[u32], piece: Piece, jam: u32, rest: u32) -> Filled
+    requires { ⌜ Cuttable (corridorOf (now old) (now state)) (now pieces) piece jam ⌝ }
     requires { ⌜ rest ≡ restBefore (corridorOf (now old) (now state)) piece ⌝ }
-    ensures { λ r. ⌜ r ≡ filled (corridorOf (now (old .entry)) (now (state .entry))) piece jam ⌝ }
+    ensures { λ r. ⌜ r ≡ filled (corridorOf (now (old .entry)) (now (state .entry))) (now (pieces .entry)) piece jam ⌝ }
 {
     let i = piece.cell;
+    let n = cells(old);
     let row = row_at(old, i);
     let share = share_by_hand(count_at(state, i), row.jam, jam, rest);
-    let queue = piece_queue(piece.number, queue_at(cells(old), state, i));
+    let queue = piece_queue(piece.number, queue_at(n, state, i));
+    let mode = piece_mode(piece.number, pieces[i] as usize, last_mode_at(n, state, i));
     let cell = Cell {
         count: share.vehicles as u32,
         queue,
+        mode,
     };
     Filled {
         cell,
@@ -120,7 +131,7 @@ fn next_piece(pieces: &[u32], piece: Piece, jam: u32) -> Piece
     }
 }
 
-// The vehicles and queues of the old cells, shared out among their pieces.
+// The vehicles, queues and modes of the old cells, shared out among their pieces.
 fn cut(old: &[u32], state: &[u32], pieces: &[u32], new: &[u32], list: &mut [u32])
     requires { ⌜ answer (recutChecks (corridorOf (now old) (now state)) (now pieces) (now new) (now list)) ≡ Answer.Accepted ⌝ }
     ensures { λ _. ⌜ now (list .exit) ≡ newState (corridorOf (now (old .entry)) (now (state .entry))) (now (pieces .entry)) (now (new .entry)) ⌝ }
@@ -135,7 +146,7 @@ fn cut(old: &[u32], state: &[u32], pieces: &[u32], new: &[u32], list: &mut [u32]
     let mut j = 0;
     while j < n {
         let row = row_at(new, j);
-        let filled = fill(old, state, piece, row.jam, rest);
+        let filled = fill(old, state, pieces, piece, row.jam, rest);
         put_cell(list, n, j, filled.cell);
         piece = next_piece(pieces, piece, row.jam);
         rest = filled.rest;

@@ -8,7 +8,7 @@ use Rattle.whole.specs.Sums.{sum}
 use Rattle.layout.specs.Layout.{cells, rowAt}
 use Rattle.recut_checks.specs.Pieces.{pieceCount, firstPiece}
 
--- a table that keeps N and, of each cell, J, the ramps, c and b; v, w, F and x are free
+-- a table that keeps N and, of each cell, J, the ramps, c and b; v, w, F, x and the dropped capacity are free
 pub record KeepsCells (old table : List ℕ) : Type 0 where
   pub many : cells table ≡ cells old
   pub jam : (i : ℕ) → i < cells old → rowAt table i .jam ≡ rowAt old i .jam

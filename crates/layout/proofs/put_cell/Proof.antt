@@ -9,6 +9,9 @@ use Rattle.layout.proofs.put_cell.Tie as tie
 slice-write-state-2 : tie.Need-slice-write-state-2
 slice-write-state-2 c = simp length-set (omega arith)
 
+slice-write-state-3 : tie.Need-slice-write-state-3
+slice-write-state-3 c = simp length-set (omega arith)
+
 same-length : tie.Need-same-length
 same-length c = search needs
 
@@ -27,5 +30,10 @@ put-cell-spec =
     (λ c. search needs)
     (λ c. search needs)
     slice-write-state-2
+    (λ c. search needs)
+    (λ c. search needs)
+    (λ c. search needs)
+    (λ c. search needs)
+    slice-write-state-3
     same-length
     returns)
