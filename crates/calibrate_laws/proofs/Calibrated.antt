@@ -227,11 +227,22 @@ module _ (settings : Settings) (flow occupancy : List Float) {diagram : Diagram}
   fitted-no-nan =
       values-no-nan (settings .period) (settings .cell) (cell-in-range settings flow occupancy (is .0)) diagram fitted-sound
 
--- ---- a row that was made, in a cell without ramps
+-- ---- a row that was made, in a cell without ramps and without a drop
 
 abbrev withoutRamps : RowNumbers → Row
 withoutRamps numbers =
-    record { v = numbers .v; w = numbers .w; capacity = numbers .capacity; jam = numbers .jam; on = 0; x = 0; c = 0; off = 0; b = 0 }
+    record {
+      v = numbers .v;
+      w = numbers .w;
+      capacity = numbers .capacity;
+      jam = numbers .jam;
+      on = 0;
+      x = 0;
+      c = 0;
+      off = 0;
+      b = 0;
+      dropped = numbers .capacity;
+    }
 
 -- what is rounded down is at least 1
 rounded-least : (x : Float) (limit : ℕ) → InLimits limit x → 1 ≤ roundedDown x
@@ -242,12 +253,18 @@ number-within limit x fits p h =
     let inside = in-limits limit fits p x h in
     rw (le-leb 1 (roundedDown x) (rounded-least x limit inside), le-leb (roundedDown x) limit (rounded-most x limit inside))
 
+-- F is in its own range, as a dropped capacity
+capacity-within : (x : Float) → valueFits 1_000_000 x ≡ true → within 1 (roundedDown x) (roundedDown x) ≡ true
+capacity-within x h =
+    let inside = in-limits 1_000_000 (lit≤ tt) (lit< tt) x h in
+    rw (le-leb 1 (roundedDown x) (rounded-least x 1_000_000 inside), le-leb (roundedDown x) (roundedDown x) (omega arith))
+
 -- values that fit are rounded down to numbers in range
 numbers-in-range : (values : RowValues) → Passes 4 (valuesFit values .test) → rowInRange (withoutRamps (rowNumbers values)) ≡ true
 unfolding rowInRange rowNumbers
 numbers-in-range values fit =
     rw
-    (number-within 65_536 (values .v) (lit≤ tt) (lit< tt) (fit 0 (lit< tt)), number-within 65_536 (values .w) (lit≤ tt) (lit< tt) (fit 1 (lit< tt)), number-within 1_000_000 (values .capacity) (lit≤ tt) (lit< tt) (fit 2 (lit< tt)), number-within 4_000_000 (values .jam) (lit≤ tt) (lit< tt) (fit 3 (lit< tt)))
+    (number-within 65_536 (values .v) (lit≤ tt) (lit< tt) (fit 0 (lit< tt)), number-within 65_536 (values .w) (lit≤ tt) (lit< tt) (fit 1 (lit< tt)), number-within 1_000_000 (values .capacity) (lit≤ tt) (lit< tt) (fit 2 (lit< tt)), number-within 4_000_000 (values .jam) (lit≤ tt) (lit< tt) (fit 3 (lit< tt)), capacity-within (values .capacity) (fit 2 (lit< tt)))
 
 pub made-in-range : (diagram : Diagram) (period : ℕ) (cell : Float) {numbers : RowNumbers} → Made numbers ≡ rowMade diagram period cell → rowInRange (withoutRamps numbers) ≡ true
 made-in-range diagram period cell e =

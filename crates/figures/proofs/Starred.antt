@@ -12,8 +12,8 @@ use Rattle.period.specs.Period.{nodeAt, flowAt, offFlowAt, modeAt, sheetOf, sta
 use Rattle.recut_checks.specs.Pieces.{jamBefore, piecesFit}
 use Rattle.recut.specs.Pieces.{pieceAt}
 use Rattle.recut.specs.Recut.{pieceCell}
-use Rattle.figures.specs.Figures.{same, plain, thirds, ofTen, holds, allHold, road, offRamp, starred}
+use Rattle.figures.specs.Figures.{same, plain, thirds, ofTen, holds, allHold, roadDropping, road, offRamp, starred}
 
 pub every-starred-figure-holds : allHold asymmetric starred ≡ true
-unfolding jamBefore piecesFit pieceAt pieceCell plain thirds ofTen orLater rowInRange M offFlow nodeAt flowAt offFlowAt modeAt sheetFrom sheetOf stateOf updated stateAfter same holds allHold road offRamp starred
+unfolding jamBefore piecesFit pieceAt pieceCell plain thirds ofTen orLater rowInRange M offFlow nodeAt flowAt offFlowAt modeAt sheetFrom sheetOf stateOf updated stateAfter same holds allHold roadDropping road offRamp starred
 every-starred-figure-holds = refl

@@ -10,7 +10,7 @@ use Rattle.whole.proofs.Search.{every-fails}
 use Rattle.refusals.specs.declared.Answer.the-variants.{Accepted}
 use Rattle.refusals.specs.Checks.{answer}
 use Rattle.layout.specs.Layout.{rampPositions, rampAt}
-use Rattle.layout.specs.Corridor.{Corridor, cellsOf, rowOf, entryQueueOf, countOf, queueOf}
+use Rattle.layout.specs.Corridor.{Corridor, cellsOf, rowOf, entryQueueOf, countOf, queueOf, lastModeOf}
 use Rattle.accept_ranges.specs.Ranges.{withRamp, queueLimit}
 use Rattle.accept_tables.specs.Tables.{tableNumbers}
 use Rattle.accept_rows.specs.Acceptance.{stateInRange, stateNumbers}
@@ -30,6 +30,9 @@ module _ (c : Corridor) (e : IsAccepted c) where
 
   pub queues-held : (i : ℕ) → i < cellsOf c → queueOf c i ≤ withRamp (rowOf c i .on) queueLimit
   queues-held i h = state-fits c numbers .cells i h .queue
+
+  pub modes-held : (i : ℕ) → i < cellsOf c → lastModeOf c i ≤ 1
+  modes-held i h = state-fits c numbers .cells i h .mode
 
   -- number 4 has passed at the later position
   pub ramps-held-once : (j k : ℕ) → j < k → k < rampPositions (cellsOf c) → rampAt (c .table) j ≡ rampAt (c .table) k → rampAt (c .table) k ≡ 0

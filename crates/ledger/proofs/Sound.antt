@@ -9,7 +9,7 @@ use Rattle.period.specs.Sharing.{Sharing}
 use Rattle.ledger.specs.Account.{Account, nothing, both}
 use Rattle.ledger.specs.Calls.{Call, IsAccepted, leaves, leavesAll, accountOf, accountOfAll, queueOfRamp, rampsOf}
 use Rattle.ledger.specs.Demand3.{Demand3}
-use Rattle.ledger.proofs.Held.{counts-held, entry-held, queues-held, ramps-held-once}
+use Rattle.ledger.proofs.Held.{counts-held, entry-held, queues-held, modes-held, ramps-held-once}
 
 -- from one corridor to another, with its account
 pub record Sound (c after : Corridor) (account : Account) : Type 0 where
@@ -50,6 +50,7 @@ module _ (way : Sharing) where
         counts = counts-held (leavesAll way calls start) (sound .accepted);
         entryQueue = entry-held (leavesAll way calls start) (sound .accepted);
         rampQueues = queues-held (leavesAll way calls start) (sound .accepted);
+        modes = modes-held (leavesAll way calls start) (sound .accepted);
         rampsOnce = ramps-held-once (leavesAll way calls start) (sound .accepted);
         balance = sound .balance;
         queues = sound .queues;

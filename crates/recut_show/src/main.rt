@@ -1,6 +1,6 @@
 // Cuts a cell with an on-ramp and an off-ramp into three under a running corridor, and joins the three again later, and shows that nothing
-// is lost: the vehicles and the ramps along the road are as before, the queue stands on the first piece and the off-ramp on the last, and
-// the periods go on.
+// is lost: the vehicles and the ramps along the road are as before, the queue stands on the first piece, the off-ramp and the mode on the
+// last, and the periods go on.
 use layout::cells;
 use layout::ramp_at;
 use layout::ramp_positions;
@@ -8,11 +8,11 @@ use layout::row_at;
 use recut::Share;
 use refusals::Answer;
 
-// One cell with on-ramp 11 and off-ramp 12, in the columns v, w, F, J, on, x, c, off, b.
-const OLD: [u32; 9] = [16_384, 8_192, 2_000, 12_000, 11, 16_384, 500, 12, 16_384];
+// One cell with on-ramp 11 and off-ramp 12, in the columns v, w, F, J, on, x, c, off, b, dropped.
+const OLD: [u32; 10] = [16_384, 8_192, 950, 12_000, 11, 16_384, 500, 12, 16_384, 900];
 
-// The same stretch in three cells: the on-ramp on the first, the off-ramp on the last.
-const NEW: [u32; 27] = [
+// The same stretch in three cells: the on-ramp on the first, the off-ramp and the drop on the last.
+const NEW: [u32; 30] = [
     49_152,
     24_576,
     2_000,
@@ -22,6 +22,7 @@ const NEW: [u32; 27] = [
     500,
     0,
     0,
+    2_000,
     49_152,
     24_576,
     2_000,
@@ -31,15 +32,17 @@ const NEW: [u32; 27] = [
     0,
     0,
     0,
+    2_000,
     49_152,
     24_576,
-    2_000,
+    950,
     4_000,
     0,
     0,
     0,
     12,
     16_384,
+    900,
 ];
 
 // Ten periods of one demand row; answers whether all were accepted.
@@ -105,37 +108,37 @@ fn show_shares(n: u32, whole: u32, new: &[u32]) {
 
 // Joins the three cells again under the running corridor, and goes on.
 fn join_again(cut: &[u32]) {
-    let mut joined = [0u32; 3];
+    let mut joined = [0u32; 4];
     let mut sheet = [0u32; 5];
     io::write_all(1, b"joined again: ");
     show::answer(join::join(&NEW, cut, &[3], &OLD, &mut joined));
-    show_state(b"sums: Q n q", 1, &joined);
+    show_state(b"sums: Q n q mode", 1, &joined);
     show_ramps(&OLD);
     ten_periods(&OLD, &mut joined, &[800, 600, 0], &mut sheet);
-    show_state(b"after ten more: Q n q", 1, &joined);
+    show_state(b"after ten more: Q n q mode", 1, &joined);
 }
 
 fn main() {
-    let mut state = [0u32, 6_001, 300];
+    let mut state = [0u32, 6_001, 300, 0];
     let mut sheet = [0u32; 5];
-    show::list(b"old cell (v w F J on x c off b):", &OLD);
+    show::list(b"old cell (v w F J on x c off b dropped):", &OLD);
     io::write_all(1, b"\n");
     show_ramps(&OLD);
     ten_periods(&OLD, &mut state, &[800, 600, 0], &mut sheet);
-    show_state(b"after ten periods: Q n q", 1, &state);
+    show_state(b"after ten periods: Q n q mode", 1, &state);
     show::list(b"sheet (entry f s r mode):", &sheet);
     io::write_all(1, b"\n");
-    let mut cut = [0u32; 7];
+    let mut cut = [0u32; 10];
     show::list(b"new cells:", &NEW);
     io::write_all(1, b"\n");
     show_ramps(&NEW);
     io::write_all(1, b"cut into three: ");
     show::answer(recut::recut(&OLD, &state, &[3], &NEW, &mut cut));
     show_shares(state[1], 12_000, &NEW);
-    show_state(b"shares: Q n n n q q q", 3, &cut);
+    show_state(b"shares: Q, n, q, modes", 3, &cut);
     let mut new_sheet = [0u32; 13];
     ten_periods(&NEW, &mut cut, &[800, 600, 0, 0, 0, 0, 0], &mut new_sheet);
-    show_state(b"after ten more: Q n n n q q q", 3, &cut);
+    show_state(b"after ten more: Q, n, q, modes", 3, &cut);
     show::list(b"sheet (entry, f, s, r, modes):", &new_sheet);
     io::write_all(1, b"\n");
     join_again(&cut);
