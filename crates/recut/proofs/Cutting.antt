@@ -120,7 +120,8 @@ module _ {old : Corridor} {pieces new list : List ℕ} {piece : Piece} {n rest j
     next-asked = rw (at .piece-is) (next-asks old pieces new (at .known) j below)
 
     -- one more, as the loop meets it
-    pub goes-on : {list′ : List ℕ} {done : Filled} {piece′ : Piece} → done ≡ filled old pieces piece (row .jam) → list′ ≡ withCell n list j (done .cell) → piece′ ≡ nextPiece pieces piece (row .jam)
+    pub goes-on : {list′ : List ℕ} {done : Filled} {piece′ : Piece} → done ≡ filled old pieces piece (row .jam)
+        → list′ ≡ withCell n list j (done .cell) → piece′ ≡ nextPiece pieces piece (row .jam)
         → Cutting old pieces new n list′ piece′ (done .rest) (j + 1)
     unfolding pieceAt
     goes-on {done = done} done-is put next =
