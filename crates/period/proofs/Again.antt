@@ -22,6 +22,8 @@ use Rattle.accept_rows.proofs.Accepted.{StateFits, RowFits, state-fits, row-fit
 use Rattle.period.specs.Sharing.{Sharing}
 use Rattle.period.specs.Period.{corridorAfter}
 use Rattle.period.specs.Fair.{Fair}
+use Rattle.period.proofs.Nodes.{mode-at-most-one}
+use Rattle.period.proofs.Reading.{after-mode}
 use Rattle.period.proofs.Laws.{entry-balance, queue-balance, count-stays-within}
 
 module _ (way : Sharing) (fair : Fair way) (c : Corridor) (demand : List ℕ) (accepted : answer (stateNumbers c) ≡ Accepted) (row : answer (demandNumbers c demand) ≡ Accepted) where
@@ -53,6 +55,7 @@ module _ (way : Sharing) (fair : Fair way) (c : Corridor) (demand : List ℕ) (a
       (record {
         count = count-stays-within way fair c demand t s d i below;
         queue = queue-stays-within i below (eqb (rowOf c i .on) 0) (s .cells i below .queue) (d .ons i below);
+        mode = omega (arith, after-mode way c demand i below, mode-at-most-one way c demand i);
       })
 
   pub state-stays-accepted : answer (stateNumbers (corridorAfter way c demand)) ≡ Accepted

@@ -37,6 +37,16 @@ module _ (way : Sharing) (c : Corridor) (demand : List ℕ) where
   unfolding modeAt
   last-mode-is i h = rw (le-ltb (suc i) (cellsOf c) h)
 
+  -- a mode is 0 or 1
+  pub mode-at-most-one : (i : ℕ) → modeAt way c demand i ≤ 1
+  unfolding modeAt
+  mode-at-most-one i = by (ltb (sentAt c demand i) (capacityNow c i)) _
+    where
+      by : (below clear : Bool) → pick (below && clear) 0 1 ≤ 1
+      by true true = omega arith
+      by true false = omega arith
+      by false clear = omega arith
+
   -- what passes, by what is read of the receiving cell and offered to it
   pub node-is : (p : ℕ) {n a e : ℕ} {row : Row} {passed : Passed} → row ≡ rowOf c p → n ≡ countOf c p → a ≡ offerAt c demand p → e ≡ rampOfferAt c demand p → passed ≡ way row n a e → passed ≡ nodeAt way c demand p
   unfolding nodeAt

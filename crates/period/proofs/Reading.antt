@@ -7,8 +7,8 @@ use native.Mathlib.Omega.{arith}
 use lib.ListN.{length}
 use Rattle.layout.specs.Layout.{stateLength, entryDemand, onDemandAt}
 use Rattle.layout.specs.Sheet.{sheetLength, flowIn, offFlowIn, onFlowIn, modeIn}
-use Rattle.layout.specs.Corridor.{Corridor, cellsOf, entryQueueOf, countOf, queueOf}
-use Rattle.layout.proofs.Readers.{state-length, state-entry, state-count, state-queue, sheet-length, sheet-flow, sheet-off, sheet-on, sheet-mode}
+use Rattle.layout.specs.Corridor.{Corridor, cellsOf, entryQueueOf, countOf, queueOf, lastModeOf}
+use Rattle.layout.proofs.Readers.{state-length, state-entry, state-count, state-queue, state-mode, sheet-length, sheet-flow, sheet-off, sheet-on, sheet-mode}
 use Rattle.period.specs.Sharing.{Sharing}
 use Rattle.period.specs.Updated.{entryQueueAfter, cellAfter, updated}
 use Rattle.period.specs.Period.{flowAt, offFlowAt, onFlowAt, modeAt, sheetOf, stateAfter, corridorAfter}
@@ -58,3 +58,9 @@ module _ (way : Sharing) (c : Corridor) (demand : List ℕ) where
   after-queue i h =
       state-queue (cellsOf c) (entryQueueAfter (cellsOf c) (c .state) demand sheet) (cellAfter (cellsOf c) (c .state) demand sheet) i h
       ∙ ap (λ flow. queueOf c i + onDemandAt demand i - flow) (of-on i h)
+
+  pub after-mode : (i : ℕ) → i < cellsOf c → lastModeOf (corridorAfter way c demand) i ≡ modeAt way c demand i
+  unfolding stateAfter updated
+  after-mode i h =
+      state-mode (cellsOf c) (entryQueueAfter (cellsOf c) (c .state) demand sheet) (cellAfter (cellsOf c) (c .state) demand sheet) i h
+      ∙ of-mode i h

@@ -39,10 +39,11 @@ sub-t16 c =
 
 returns : tie.Need-returns
 returns c =
-    let out = c .before .before in
+    let waits = c .before in
+    let out = waits .before .before in
     let read = out .before .before in
     rw
-    (c .on-demand-at .ensures, c .before .queue-at .ensures, out .off-flow-in .ensures, out .before .flow-in2 .ensures, read .flow-in .ensures, read .before .count-at .ensures, read .before .before .on-flow-in .ensures)
+    (c .mode-in .ensures, waits .on-demand-at .ensures, waits .before .queue-at .ensures, out .off-flow-in .ensures, out .before .flow-in2 .ensures, read .flow-in .ensures, read .before .count-at .ensures, read .before .before .on-flow-in .ensures)
 
 pub cell-after-spec : {M : Type 1} → statement M
 cell-after-spec =
@@ -62,4 +63,5 @@ cell-after-spec =
     (λ c κs. search needs)
     add-t15
     sub-t16
+    (λ c κs. search needs)
     returns)
