@@ -3,7 +3,7 @@
 use std::fs;
 use std::path::Path;
 
-use model::{read_whole, simulate, state_length, COLUMNS, ONE};
+use model::{demand_length, read_whole, simulate, state_length, COLUMNS, ONE};
 
 const CELLS: usize = 41;
 const PERIODS: usize = 2_520;
@@ -34,7 +34,7 @@ fn corridor() {
 
     let table = read_whole(&cells, COLUMNS).unwrap();
     let state = read_whole(&state, state_length(CELLS)).unwrap();
-    let demand = read_whole(&demand, state_length(CELLS)).unwrap();
+    let demand = read_whole(&demand, demand_length(CELLS)).unwrap();
     let rows: Vec<&[u32]> = table.chunks(COLUMNS).collect();
     let count_of = |wanted: fn(&[u32]) -> bool| rows.iter().filter(|row| wanted(row)).count();
     assert_eq!(count_of(|row| row[4] != 0), 21, "on-ramps");
@@ -57,11 +57,11 @@ fn corridor() {
 
     // What was there and what came is what is there and what left, the on-ramps' queues too.
     let sum = |list: &[u32]| list.iter().map(|&number| u64::from(number)).sum::<u64>();
-    let came: u64 = demand.chunks(state_length(CELLS)).map(|row| sum(&row[..=CELLS])).sum();
+    let came: u64 = demand.chunks(demand_length(CELLS)).map(|row| sum(&row[..=CELLS])).sum();
     let entered: u64 = lines.iter().map(|line| line[5]).sum();
-    let wanted: u64 = demand.chunks(state_length(CELLS)).map(|row| sum(&row[1..=CELLS])).sum();
+    let wanted: u64 = demand.chunks(demand_length(CELLS)).map(|row| sum(&row[1..=CELLS])).sum();
     let left: u64 = lines.iter().map(|line| line[4] + if line[1] == CELLS as u64 { line[3] } else { 0 }).sum();
     let there: u64 = (0..=CELLS).map(|cell| line(PERIODS, cell)[2]).sum();
-    assert_eq!(sum(&state) + came, there + (wanted - entered) + left);
+    assert_eq!(sum(&state[..=2 * CELLS]) + came, there + (wanted - entered) + left);
     assert!(rows.iter().all(|row| row[0] <= ONE));
 }
