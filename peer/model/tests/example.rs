@@ -1,4 +1,4 @@
-//! The example corridor: it runs to its end, loses no vehicle, and its bottleneck forms and clears.
+//! The example corridor: it runs to its end, loses no vehicle, and its bottlenecks form and clear, with less capacity meanwhile.
 
 use std::fs;
 use std::path::Path;
@@ -9,6 +9,8 @@ const CELLS: usize = 41;
 const PERIODS: usize = 2_520;
 /// The cell at postmile 33.05.
 const BOTTLENECK: usize = 19;
+/// The cell at postmile 26.12.
+const LAST_BOTTLENECK: usize = 39;
 
 fn text(name: &str) -> Vec<u8> {
     let folder = Path::new(env!("CARGO_MANIFEST_DIR")).join("../../examples/i210w");
@@ -54,6 +56,21 @@ fn corridor() {
     assert_eq!(dense_cells(at(11, 0)), 0);
     assert_eq!(line(at(11, 0), BOTTLENECK)[6], 0);
     assert_eq!(line(at(8, 0), BOTTLENECK)[6], 1);
+
+    // Only the two bottlenecks drop. Each comes to its capacity in its first congested period alone, and no other cell ever does.
+    for (cell, row) in (1..).zip(&rows) {
+        let (capacity, dropped) = (u64::from(row[2]), u64::from(row[9]));
+        let congested: Vec<usize> = (1..=PERIODS).filter(|&period| line(period, cell)[6] == 1).collect();
+        let most = (1..=PERIODS).map(|period| line(period, cell)[3]).max();
+        if [BOTTLENECK, LAST_BOTTLENECK].contains(&cell) {
+            assert!(dropped.abs_diff(capacity * 95 / 100) <= 1, "cell {cell}");
+            assert_eq!(line(congested[0], cell)[3], capacity, "cell {cell}");
+            assert!(congested[1..].iter().all(|&period| line(period, cell)[3] <= dropped), "cell {cell}");
+        } else {
+            assert_eq!(dropped, capacity, "cell {cell}");
+            assert!(most < Some(capacity), "cell {cell}");
+        }
+    }
 
     // What was there and what came is what is there and what left, the on-ramps' queues too.
     let sum = |list: &[u32]| list.iter().map(|&number| u64::from(number)).sum::<u64>();
