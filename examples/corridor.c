@@ -17,8 +17,8 @@
 #define PART 360  /* demand rows for one call: an hour, where a period is 10 seconds; the library takes up to 4,096 */
 
 /* How long the library's lists are for so many cells. */
-#define TABLE_LENGTH(cells) (9 * (cells))
-#define STATE_LENGTH(cells) (2 * (cells) + 1)
+#define TABLE_LENGTH(cells) (10 * (cells))
+#define STATE_LENGTH(cells) (3 * (cells) + 1)
 #define DEMAND_LENGTH(cells) (2 * (cells) + 1)
 #define SHEET_LENGTH(cells) (4 * (cells) + 1)
 
@@ -95,7 +95,7 @@ static int next_byte(const struct text *text)
 
 /* Reads the next record, which must have so many fields, and answers whether there was one. What scanf would take as well (a sign,
    a space, a leading zero, a number too large, a record with a field too few) is a slip in the file, and ends the program. A
-   record may have 16,384 bytes; one of the right fields has fewer. */
+   record may have 16,384 bytes; one whose numbers the library accepts has fewer. */
 static bool read_record(struct text *text, uint32_t *numbers, size_t fields)
 {
     int byte = next_byte(text);

@@ -42,8 +42,9 @@ def say(what, word):
     print(f"{what}: " + (f"refused with number {number(word)} at place {place(word)}" if number(word) else "accepted"))
 
 library = ctypes.CDLL(sys.argv[1])
-rows = read("cells.csv", 9)
-state_length, demand_length, sheet_length = 2 * len(rows) + 1, 2 * len(rows) + 1, 4 * len(rows) + 1
+rows = read("cells.csv", 10)
+cells = len(rows)
+state_length, demand_length, sheet_length = 3 * cells + 1, 2 * cells + 1, 4 * cells + 1
 table = lend(rows)
 word = call("figwimple_accept_table", table)
 if number(word) != 1:  # without a number of cells the other files have no lengths
@@ -63,5 +64,6 @@ for start in range(0, len(rows), PART):
     if number(word) != 0:
         break
 say("the demand", word)
-print(f"{done} periods; {sum(state)} thousandths of a vehicle on the road and in queues")
+vehicles = sum(state[:2 * cells + 1])  # what comes after the counts and queues are modes
+print(f"{done} periods; {vehicles} thousandths of a vehicle on the road and in queues")
 sys.exit(0 if number(word) == 0 else 1)

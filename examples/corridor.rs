@@ -26,11 +26,12 @@ fn period(table: &[u32], state: &mut [u32], demand: &[u32], sheet: &mut [u32]) -
 const CELLS: usize = 2;
 
 fn main() {
-    // v, w, F, J, on-ramp number, x, c, off-ramp number and b of each cell.
-    let cell = [32768, 16384, 2000, 10000, 0, 0, 0, 0, 0];
+    // v, w, F, J, on-ramp number, x, c, off-ramp number, b and dropped capacity of each cell.
+    let cell = [32768, 16384, 2000, 10000, 0, 0, 0, 0, 0, 2000];
     let table = [cell; CELLS].concat();
-    // The entry queue, the cells' counts, the on-ramps' queues; what comes to the entry and the on-ramps, and to the off-ramps.
-    let mut state = [500, 8000, 4000, 0, 0];
+    // The entry queue, the cells' counts, the on-ramps' queues, the cells' modes in the period before; what comes to the entry and the
+    // on-ramps, and to the off-ramps.
+    let mut state = [500, 8000, 4000, 0, 0, 0, 0];
     let demand = [300, 0, 0, 0, 0];
     let mut sheet = [0; 4 * CELLS + 1];
     if let Err((number, place)) = period(&table, &mut state, &demand, &mut sheet) {

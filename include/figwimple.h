@@ -35,8 +35,8 @@
 
    LISTS. A list is a pointer and its length in elements. With N cells:
 
-       table    9N       v, w, F, J, on-ramp number, x, c, off-ramp number, b of each cell
-       state    2N + 1   entry queue, N counts, N on-ramp queues
+       table    10N      v, w, F, J, on-ramp number, x, c, off-ramp number, b, dropped capacity of each cell
+       state    3N + 1   entry queue, N counts, N on-ramp queues, N modes of the period before (0 free, 1 congested)
        demand   2N + 1   entry demand, N on-ramp demands, N off-ramp demands; a run takes K such rows end to end
        sheet    4N + 1   entry flow, N flows out, N off-ramp flows, N on-ramp flows, N modes (0 free, 1 congested)
 
@@ -65,7 +65,7 @@ uint64_t figwimple_accept_state(const uint32_t *table, size_t table_length, cons
 uint64_t figwimple_accept_row(const uint32_t *table, size_t table_length, const uint32_t *state, size_t state_length,
                               const uint32_t *demand, size_t demand_length);
 
-/* One period: numbers 1 to 7. Accepted, the state is the one after the period and the sheet has its flows. */
+/* One period: numbers 1 to 7. Accepted, the state is the one after the period, with its modes, and the sheet has its flows and modes. */
 uint64_t figwimple_period(const uint32_t *table, size_t table_length, uint32_t *state, size_t state_length,
                           const uint32_t *demand, size_t demand_length, uint32_t *sheet, size_t sheet_length);
 
@@ -76,13 +76,13 @@ uint64_t figwimple_run(const uint32_t *table, size_t table_length, uint32_t *sta
                        const uint32_t *demand, size_t demand_length, uint32_t *sheet, size_t sheet_length);
 
 /* Cuts the cells of a table into pieces: numbers 1 to 5 and 8. `pieces` has one count for each old cell, and the new table the
-   pieces' rows in their order. Accepted, `new_state` has the vehicles and queues under the new table. */
+   pieces' rows in their order. Accepted, `new_state` has the vehicles, queues and modes under the new table. */
 uint64_t figwimple_recut(const uint32_t *old_table, size_t old_table_length, const uint32_t *old_state, size_t old_state_length,
                          const uint32_t *pieces, size_t pieces_length, const uint32_t *new_table, size_t new_table_length,
                          uint32_t *new_state, size_t new_state_length);
 
 /* Joins the cells of a table, group by group: numbers 1 to 5 and 14. `groups` has one size for each new cell, and the new table a row
-   for each group. Accepted, `new_state` has the vehicles and queues under the new table. */
+   for each group. Accepted, `new_state` has the vehicles, queues and modes under the new table. */
 uint64_t figwimple_join(const uint32_t *old_table, size_t old_table_length, const uint32_t *old_state, size_t old_state_length,
                         const uint32_t *groups, size_t groups_length, const uint32_t *new_table, size_t new_table_length,
                         uint32_t *new_state, size_t new_state_length);

@@ -21,6 +21,7 @@ INVENTED
   the length of every cell but for those three figures, its lanes, and where each ramp is
   each cell's own free speed, wave speed and jam density, within the paper's ranges
   the capacity of each bottleneck, within the paper's range
+  that the capacity drops behind a queue, by how much, and where
   all flows at the entry and the ramps, all splits, their course over the morning and their unevenness
   the on-ramps' limits and their share of the room
   the freely flowing traffic that the morning starts with
@@ -86,6 +87,11 @@ ENTRY_DEMAND = 5820
 # Postmile of each bottleneck and its capacity in vehicles per hour and lane.
 BOTTLENECKS = [(33.05, 1820), (30.78, 1840), (29.88, 1880), (28.03, 1490), (26.12, 1780)]
 
+# The two bottlenecks that the morning's queues stand at, cells 19 and 39: no other cell ever comes to its own capacity. Behind a
+# queue they pass 5 % less; every other cell passes as much as without one.
+DROPS = [33.05, 26.12]
+DROP_PERCENT = 5
+
 # The demand over the morning: hour of the day and thousandths of its height, straight between them.
 COURSE = [(5.0, 430), (5.75, 700), (6.25, 950), (6.75, 1000), (8.25, 1000), (9.0, 860), (9.75, 700), (10.5, 620), (12.0, 580)]
 
@@ -133,6 +139,9 @@ def rows():
         for place, narrow in BOTTLENECKS:
             if end < place <= start:
                 capacity = narrow
+        dropped = capacity
+        if any(end < place <= start for place in DROPS):
+            dropped = capacity * (100 - DROP_PERCENT) / 100
         v = int(speed * PERIOD / (3600 * miles) * ONE)
         w = int(wave * PERIOD / (3600 * miles) * ONE)
         on_ramp = [0, 0, 0]
@@ -143,7 +152,8 @@ def rows():
         off_ramp = [0, 0]
         if off is not None:
             off_ramp = [200 + i + 1, int(off[1] * ONE / 1000) if off[0] == "split" else 0]
-        table.append([v, w, thousandths(capacity * lanes), int(jam * lanes * miles * 1000), *on_ramp, *off_ramp])
+        capacity, dropped = thousandths(capacity * lanes), thousandths(dropped * lanes)
+        table.append([v, w, capacity, int(jam * lanes * miles * 1000), *on_ramp, *off_ramp, dropped])
     return table
 
 
@@ -161,14 +171,15 @@ def flows(hour):
 
 
 def first_state(table):
-    """Counts of freely flowing traffic at 5:00, and no queue."""
+    """Counts of freely flowing traffic at 5:00, no queue, and no cell congested before."""
     entry, on, off = flows(5.0)
     flow, counts = entry, []
     for (_, _, _, ramp), row, enter, leave in zip(CELLS, table, on, off):
         flow += enter
         counts.append(int(thousandths(flow) * ONE / row[0]))
         flow -= flow * ramp[1] / 1000 if ramp is not None and ramp[0] == "split" else leave
-    return [0, *counts, *([0] * len(CELLS))]
+    queues = modes = [0] * len(CELLS)
+    return [0, *counts, *queues, *modes]
 
 
 def demand():

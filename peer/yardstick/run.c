@@ -6,10 +6,10 @@
 #include <stddef.h>
 #include <stdint.h>
 
-enum { MOST_CELLS = 512, COLUMNS = 9, ONE = 65536, MOST_FLOW = 1000000, MOST_QUEUE = 1000000000 };
+enum { MOST_CELLS = 512, COLUMNS = 10, ONE = 65536, MOST_FLOW = 1000000, MOST_QUEUE = 1000000000 };
 
 typedef struct {
-    uint32_t v[MOST_CELLS], w[MOST_CELLS], capacity[MOST_CELLS], jam[MOST_CELLS];
+    uint32_t v[MOST_CELLS], w[MOST_CELLS], capacity[MOST_CELLS], dropped[MOST_CELLS], jam[MOST_CELLS];
     uint32_t x[MOST_CELLS], c[MOST_CELLS], stay[MOST_CELLS];
     uint32_t most_on[MOST_CELLS], most_off[MOST_CELLS];
     double split[MOST_CELLS], rest[MOST_CELLS];
@@ -28,6 +28,7 @@ static void prepare(columns *t, const uint32_t *table, size_t cells) {
         t->v[i] = row[0];
         t->w[i] = row[1];
         t->capacity[i] = row[2];
+        t->dropped[i] = row[9];
         t->jam[i] = row[3];
         t->x[i] = row[5];
         t->c[i] = row[6];
@@ -61,11 +62,12 @@ static uint64_t refusal(const columns *t, const uint32_t *state, const uint32_t 
     return 0;
 }
 
-/* One period. f·b is under 2^36 and ONE − b at most 2^16, so the quotient of doubles, cut to a whole number, is the quotient
+/* One period. Which capacity holds goes by the modes that the state has from the period before, until this one's take their
+ * place. f·b is under 2^36 and ONE − b at most 2^16, so the quotient of doubles, cut to a whole number, is the quotient
  * rounded down: where it is not whole it is at least 2^-16 under the next whole number, and is off by at most 2^-17. */
 static void step(columns *restrict t, uint32_t *restrict state, const uint32_t *restrict demand,
                  uint32_t *restrict sheet, size_t cells) {
-    uint32_t *restrict count = state + 1, *restrict queue = state + 1 + cells;
+    uint32_t *restrict count = state + 1, *restrict queue = count + cells, *restrict before = queue + cells;
     const uint32_t *restrict on = demand + 1, *restrict off = demand + 1 + cells;
     uint32_t *restrict f = sheet + 1, *restrict s = f + cells, *restrict r = s + cells, *restrict mode = r + cells;
     uint32_t *restrict room = t->room, *restrict ready = t->ready;
@@ -81,11 +83,12 @@ static void step(columns *restrict t, uint32_t *restrict state, const uint32_t *
 
 #pragma GCC ivdep
     for (size_t i = 0; i < cells; i++) {
-        uint32_t given = least(off[i], ready[i]), most = least(t->capacity[i], room[i + 1]);
+        uint32_t holds = before[i] ? t->dropped[i] : t->capacity[i];
+        uint32_t given = least(off[i], ready[i]), most = least(holds, room[i + 1]);
         uint32_t wanted = part(t->stay[i], ready[i]) - given;
         f[i] = least(wanted, most);
         s[i] = given;
-        mode[i] = wanted >= most;
+        mode[i] = before[i] = wanted >= most;
     }
 #pragma GCC ivdep
     for (size_t i = 0; i < cells; i++) {

@@ -4,7 +4,9 @@ use std::hint::black_box;
 use std::time::Duration;
 
 use cases::{demand_rows, even_join, even_recut, samples, table, Calibrate, Case, Corridor, Kind, Rng, TwoTables};
-use model::{read_whole, sheet_length, state_length, Face, Model, RunAnswer, Settings, COLUMNS, MOST_SAMPLES};
+use model::{
+    demand_length, read_whole, sheet_length, state_length, Face, Model, RunAnswer, Settings, COLUMNS, MOST_SAMPLES,
+};
 
 use crate::programs::EXAMPLE;
 use crate::timing::{best, print_table, ratio, time, Work};
@@ -136,17 +138,21 @@ pub fn measure(rounds: usize) {
 fn example(periods: usize) -> Corridor {
     let [cells, state, demand] = EXAMPLE;
     let table = read_whole(cells, COLUMNS).expect("the example's cells are read");
-    let width = state_length(table.len() / COLUMNS);
-    let sheet = vec![0; sheet_length(table.len() / COLUMNS)];
-    let state = read_whole(state, width).expect("the example's state is read");
+    let cells = table.len() / COLUMNS;
+    let width = demand_length(cells);
+    let sheet = vec![0; sheet_length(cells)];
+    let state = read_whole(state, state_length(cells)).expect("the example's state is read");
     let morning = read_whole(demand, width).expect("the example's demand is read");
     let demand = morning.into_iter().cycle().take(periods * width).collect();
     Corridor { table, state, demand, sheet }
 }
 
-/// A run over a road of any size that is accepted to its end.
+/// A run over a road of any size that is accepted to its end. Each tenth cell passes 5 % less behind a queue.
 fn corridor(rng: &mut Rng, cells: usize, periods: usize) -> Corridor {
-    let table = table(rng, Kind::Road, cells);
+    let mut table = table(rng, Kind::Road, cells);
+    for (cell, row) in table.chunks_mut(COLUMNS).enumerate() {
+        row[9] = if cell % 10 == 9 { row[2] - row[2] / 20 } else { row[2] };
+    }
     let demand = demand_rows(rng, &table, periods);
     let mut state = vec![0; state_length(cells)];
     for (count, row) in state[1..=cells].iter_mut().zip(table.chunks(COLUMNS)) {
@@ -206,12 +212,14 @@ fn run_works(case: &Corridor) -> Works {
 }
 
 fn period_works(case: &Corridor) -> Works {
+    let width = demand_length(case.table.len() / COLUMNS);
+    same(Case::Period(Corridor { demand: case.demand[..width].to_vec(), ..case.clone() }));
     let [rust, proved] = through(|face| {
         let Corridor { table, state, demand, mut sheet } = case.clone();
         let mut moving = state.clone();
         Box::new(move || {
             moving.copy_from_slice(&state);
-            for row in demand.chunks_exact(state.len()) {
+            for row in demand.chunks_exact(width) {
                 black_box(face.period(black_box(&table), &mut moving, black_box(row), &mut sheet));
             }
         })

@@ -3,7 +3,8 @@
 use std::collections::BTreeSet;
 
 use model::{
-    sheet_length, state_length, Settings, COLUMNS, MOST_CELLS, MOST_FLOW, MOST_JAM, MOST_QUEUE, MOST_RAMP, ONE,
+    demand_length, sheet_length, state_length, Settings, COLUMNS, LONGEST_RECORD, MOST_CELLS, MOST_FLOW, MOST_JAM,
+    MOST_QUEUE, MOST_RAMP, ONE,
 };
 
 use crate::pieces::{any_join, any_recut};
@@ -82,6 +83,15 @@ pub(crate) fn any_speeds(rng: &mut Rng, kind: Kind) -> [u32; 4] {
     }
 }
 
+/// A dropped capacity beside this capacity, mostly some of it less, so that the modes matter.
+pub(crate) fn any_dropped(rng: &mut Rng, capacity: u32) -> u32 {
+    match rng.below(4) {
+        0 => capacity,
+        1 => rng.edge(1, capacity),
+        _ => rng.within(capacity - capacity / 4, capacity),
+    }
+}
+
 fn any_row(rng: &mut Rng, kind: Kind, ramps: &mut Ramps) -> [u32; COLUMNS] {
     let [v, mut w, capacity, jam] = any_speeds(rng, kind);
     let [mut on, mut x, mut c, mut off, mut b] = [0; 5];
@@ -103,7 +113,7 @@ fn any_row(rng: &mut Rng, kind: Kind, ramps: &mut Ramps) -> [u32; COLUMNS] {
             _ => rng.edge(1, MOST_RAMP),
         };
     }
-    [v, w, capacity, jam, on, x, c, off, b]
+    [v, w, capacity, jam, on, x, c, off, b, any_dropped(rng, capacity)]
 }
 
 /// An x that w leaves room for, often all of it.
@@ -145,6 +155,8 @@ pub(crate) fn any_state(rng: &mut Rng, table: &[u32]) -> Vec<u32> {
         });
     }
     state.extend(rows(table).map(|row| if row[4] == 0 { 0 } else { any_queue(rng) }).collect::<Vec<_>>());
+    let modes: &[u32] = rng.pick(&[&[0], &[1], &[0, 1], &[0, 0, 0, 1]]);
+    state.extend(rows(table).map(|_| rng.pick(modes)).collect::<Vec<_>>());
     state
 }
 
@@ -191,14 +203,18 @@ pub(crate) fn any_contents(rng: &mut Rng, length: usize) -> Vec<u32> {
     (0..length).map(|_| rng.word() as u32).collect()
 }
 
-/// Makes a list a little too short or too long.
+/// Makes a list a little too short or too long, or a whole column: a state as long as a demand row is, a demand row as long
+/// as a state, a table with nine numbers in place of ten.
 pub(crate) fn damage_length<T: Copy + Default>(rng: &mut Rng, list: &mut Vec<T>) {
-    match rng.below(4) {
+    match rng.below(7) {
         0 => {
             list.pop();
         }
         1 => list.push(list.first().copied().unwrap_or_default()),
         2 => list.clear(),
+        3 => list.truncate(list.len() - list.len() / 3),
+        4 => list.resize(list.len() + list.len() / 2, T::default()),
+        5 => list.truncate(list.len() - list.len() / COLUMNS),
         _ => {
             let more = 1 + rng.below(9);
             list.extend(vec![T::default(); more]);
@@ -208,7 +224,8 @@ pub(crate) fn damage_length<T: Copy + Default>(rng: &mut Rng, list: &mut Vec<T>)
 
 /// Puts one number of a table out of its range, gives its cell too large shares, or uses a ramp number again.
 pub(crate) fn damage_table(rng: &mut Rng, table: &mut [u32]) {
-    const MOST: [u32; COLUMNS] = [ONE, ONE, MOST_FLOW, MOST_JAM, MOST_RAMP, MOST_RAMP, MOST_FLOW, MOST_RAMP, MOST_RAMP];
+    const MOST: [u32; COLUMNS] =
+        [ONE, ONE, MOST_FLOW, MOST_JAM, MOST_RAMP, MOST_RAMP, MOST_FLOW, MOST_RAMP, MOST_RAMP, MOST_FLOW];
     let cells = table.len() / COLUMNS;
     if cells == 0 {
         return;
@@ -221,7 +238,7 @@ pub(crate) fn damage_table(rng: &mut Rng, table: &mut [u32]) {
         }
     };
     let at = any_at(rng);
-    match rng.below(6) {
+    match rng.below(7) {
         0 => {
             let column = rng.below(COLUMNS);
             table[at + column] = MOST[column] + 1;
@@ -244,6 +261,7 @@ pub(crate) fn damage_table(rng: &mut Rng, table: &mut [u32]) {
                 }
             }
         }
+        4 => damage_dropped(rng, &mut table[at..at + COLUMNS]),
         _ => {
             // a ramp number used again
             let used: Vec<u32> = rows(table).flat_map(|row| [row[4], row[7]]).filter(|&ramp| ramp != 0).collect();
@@ -265,16 +283,27 @@ pub(crate) fn damage_table(rng: &mut Rng, table: &mut [u32]) {
     }
 }
 
+/// Takes the dropped capacity of a row to an end of its range or just out of it, by itself or by its F.
+fn damage_dropped(rng: &mut Rng, row: &mut [u32]) {
+    let (capacity, dropped) = (row[2], row[9]);
+    if rng.once_in(4) {
+        row[2] = rng.pick(&[dropped, dropped.saturating_sub(1)]);
+    } else {
+        row[9] = rng.pick(&[0, 1, capacity.saturating_sub(1), capacity, capacity.saturating_add(1)]);
+    }
+}
+
 pub(crate) fn damage_state(rng: &mut Rng, table: &[u32], state: &mut [u32]) {
     let cells = table.len() / COLUMNS;
     if cells == 0 || state.len() != state_length(cells) {
         return;
     }
     let cell = rng.below(cells);
-    match rng.below(4) {
+    match rng.below(5) {
         0 => state[0] = MOST_QUEUE + 1 + rng.edge(0, u32::MAX - MOST_QUEUE - 1),
         1 => state[1 + cell] = table[cell * COLUMNS + 3].saturating_add(rng.pick(&[1, 1, 1_000, u32::MAX])),
         2 => state[1 + cells + cell] = MOST_QUEUE + 1,
+        3 => state[1 + 2 * cells + cell] = rng.pick(&[2, 2, 3, 256, 1 << 16, 1 << 31, u32::MAX]),
         _ => {
             // a queue without an on-ramp, if there is such a cell
             let cell = rows(table).position(|row| row[4] == 0).unwrap_or(cell);
@@ -284,7 +313,7 @@ pub(crate) fn damage_state(rng: &mut Rng, table: &[u32], state: &mut [u32]) {
 }
 
 fn damage_demand(rng: &mut Rng, cells: usize, demand: &mut [u32]) {
-    if demand.len() != state_length(cells) {
+    if demand.len() != demand_length(cells) {
         return;
     }
     let at = if rng.once_in(5) { 0 } else { rng.below(demand.len()) };
@@ -340,7 +369,7 @@ fn any_run(rng: &mut Rng) -> Corridor {
     }
     let mut sheet = any_contents(rng, sheet_length(cells));
     if periods > 0 && rng.once_in(3) {
-        let row = state_length(cells);
+        let row = demand_length(cells);
         let at = rng.below(periods) * row;
         damage_demand(rng, cells, &mut demand[at..at + row]);
     }
@@ -555,15 +584,14 @@ fn any_texts(rng: &mut Rng) -> Texts {
             0 | 1 => damage_table(rng, &mut table),
             2 | 3 => damage_state(rng, &table, &mut state),
             _ if periods > 0 => {
-                let row = state_length(cells);
+                let row = demand_length(cells);
                 let at = rng.below(periods) * row;
                 damage_demand(rng, cells, &mut demand[at..at + row]);
             }
             _ => {}
         }
     }
-    let width = state_length(cells);
-    let mut texts = [text(&table, COLUMNS), text(&state, width), text(&demand, width)];
+    let mut texts = texts_of(rng, cells, &table, &mut state, &demand);
     for text in &mut texts {
         if rng.once_in(4) && text.ends_with(b"\r\n") {
             text.truncate(text.len() - 2);
@@ -581,6 +609,30 @@ fn any_texts(rng: &mut Rng) -> Texts {
         }
     }
     Texts(texts)
+}
+
+/// The lists as texts, now and then with a wrong number of fields in the cells or in the state. A state of the most cells is
+/// often about as long as a record may be.
+fn texts_of(rng: &mut Rng, cells: usize, table: &[u32], state: &mut Vec<u32>, demand: &[u32]) -> [Vec<u8>; 3] {
+    let mut width = COLUMNS;
+    match rng.below(40) {
+        0 => width = rng.pick(&[COLUMNS - 1, COLUMNS + 1]),
+        1 => damage_length(rng, state),
+        2..=9 if cells == MOST_CELLS => lengthen(rng, state),
+        _ => {}
+    }
+    let state_width = state.len();
+    [text(table, width), text(state, state_width), text(demand, demand_length(cells))]
+}
+
+/// Gives a state of the most cells numbers with so many digits that its record is as long as one may be, or nearly. No such
+/// state is accepted.
+fn lengthen(rng: &mut Rng, state: &mut [u32]) {
+    let length = LONGEST_RECORD + rng.below(5) - 2;
+    let commas = state.len() - 1;
+    let of_ten_digits = length - commas - 9 * state.len();
+    state.fill(100_000_000);
+    state[..of_ten_digits].fill(1_000_000_000);
 }
 
 /// Breaks a text in one of the ways that the rules name, or nearly does.
@@ -678,7 +730,7 @@ fn damage_text(rng: &mut Rng, text: &mut Vec<u8>) {
             text.extend(more.bytes());
         }
         12 => {
-            let header = rng.pick(&["\u{feff}", "v,w,F,J,on,x,c,off,b\r\n", "\r\n", "\"0\"\r\n", "#\r\n"]);
+            let header = rng.pick(&["\u{feff}", "v,w,F,J,on,x,c,off,b,dropped\r\n", "\r\n", "\"0\"\r\n", "#\r\n"]);
             text.splice(0..0, header.bytes());
         }
         // a record as long as one may be, or a byte longer, in small fields, in zeros or in one number

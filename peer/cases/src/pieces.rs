@@ -3,8 +3,8 @@
 use model::{state_length, COLUMNS, MOST_CELLS, MOST_JAM, MOST_RAMP, ONE};
 
 use crate::generate::{
-    any_cells, any_contents, any_kind, any_share, any_speeds, any_state, damage_length, damage_state, damage_table,
-    rows, table, Kind,
+    any_cells, any_contents, any_dropped, any_kind, any_share, any_speeds, any_state, damage_length, damage_state,
+    damage_table, rows, table, Kind,
 };
 use crate::{Pieces, Rng, TwoTables};
 
@@ -162,7 +162,7 @@ fn free_row(rng: &mut Rng, kind: Kind, jam: u32, [on, c]: [u32; 2], [off, b]: [u
         w = w.min(ONE - 1);
         x = any_share(rng, w);
     }
-    [v, w, capacity, jam, on, x, c, off, b]
+    [v, w, capacity, jam, on, x, c, off, b, any_dropped(rng, capacity)]
 }
 
 /// Breaks something more often than not, now and then two things.
@@ -324,20 +324,20 @@ fn damage_ends(rng: &mut Rng, cells: &mut [u32], sizes: &[u32], pieces: &mut [u3
     match rng.below(5) {
         0 => row[3] = group[rng.pick(&[0, last])][3],
         1 => row[4..7].copy_from_slice(&group[not_first][4..7]),
-        2 => row[7..].copy_from_slice(&group[not_last][7..]),
+        2 => row[7..9].copy_from_slice(&group[not_last][7..9]),
         3 => swap_ramps(group, 0, not_first, 4..7),
         _ => swap_ramps(group, last, not_last, 7..9),
     }
 }
 
-/// Brings a state within what its table allows, where the lengths are right.
+/// Brings the counts and queues of a state within what its table allows, where the lengths are right.
 fn fit_state(table: &[u32], state: &mut [u32]) {
     let cells = table.len() / COLUMNS;
     if state.len() != state_length(cells) {
         return;
     }
-    let (counts, queues) = state[1..].split_at_mut(cells);
-    for ((row, count), queue) in rows(table).zip(counts).zip(queues) {
+    let (counts, rest) = state[1..].split_at_mut(cells);
+    for ((row, count), queue) in rows(table).zip(counts).zip(&mut rest[..cells]) {
         *count = (*count).min(row[3]);
         if row[4] == 0 {
             *queue = 0;

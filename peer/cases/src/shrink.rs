@@ -1,6 +1,6 @@
 //! The search for a small case that still differs.
 
-use model::{read_whole, state_length, write_record, Settings, COLUMNS};
+use model::{demand_length, read_whole, state_length, write_record, Settings, COLUMNS};
 
 use crate::{Calibrate, Case, Corridor, Pieces, Texts, TwoTables};
 
@@ -73,7 +73,8 @@ fn without_rows(table: &[u32], range: &std::ops::Range<usize>) -> Vec<u32> {
     [&table[..from], &table[to..]].concat()
 }
 
-/// The case with one number of one of its lists made smaller.
+/// The case with one number of one of its lists made smaller, the last of a list first: a row's F can't come down far before
+/// its dropped capacity has.
 fn smaller_numbers<C: Clone>(
     whole: C,
     lists: usize,
@@ -82,7 +83,7 @@ fn smaller_numbers<C: Clone>(
     (0..lists).flat_map(move |list| {
         let whole = whole.clone();
         let length = list_of(&mut whole.clone(), list).len();
-        (0..length).flat_map(move |at| {
+        (0..length).rev().flat_map(move |at| {
             let whole = whole.clone();
             numbers(list_of(&mut whole.clone(), list)[at]).map(move |number| {
                 let mut case = whole.clone();
@@ -95,7 +96,7 @@ fn smaller_numbers<C: Clone>(
 
 fn smaller_corridor(case: Corridor) -> impl Iterator<Item = Corridor> {
     let cells = case.table.len() / COLUMNS;
-    let row = state_length(cells);
+    let row = demand_length(cells);
     let whole = case.clone();
     let fewer_rows = ranges(case.demand.len() / row).map(move |range| {
         let demand = [&whole.demand[..range.start * row], &whole.demand[range.end * row..]].concat();
@@ -104,7 +105,7 @@ fn smaller_corridor(case: Corridor) -> impl Iterator<Item = Corridor> {
     let whole = case.clone();
     let fewer_cells = ranges(cells).filter(move |range| range.len() < cells).map(move |range| Corridor {
         table: without_rows(&whole.table, &range),
-        state: without_cells(&whole.state, cells, 2, &range),
+        state: without_cells(&whole.state, cells, 3, &range),
         demand: match whole.demand.len() % row {
             0 => whole.demand.chunks(row).flat_map(|demand| without_cells(demand, cells, 2, &range)).collect(),
             _ => whole.demand.clone(),
@@ -159,10 +160,10 @@ fn without_pieces(
     };
     TwoTables {
         old_table: without_rows(&case.old_table, old),
-        old_state: without_cells(&case.old_state, case.old_table.len() / COLUMNS, 2, old),
+        old_state: without_cells(&case.old_state, case.old_table.len() / COLUMNS, 3, old),
         sizes: [&case.sizes[..cells.start], &case.sizes[cells.end..]].concat(),
         new_table: without_rows(&case.new_table, new),
-        new_state: without_cells(&case.new_state, case.new_table.len() / COLUMNS, 2, new),
+        new_state: without_cells(&case.new_state, case.new_table.len() / COLUMNS, 3, new),
     }
 }
 
@@ -248,14 +249,14 @@ fn texts_as_run(case: &Texts) -> Option<Corridor> {
         return None;
     };
     let table = read_whole(cells, COLUMNS).ok()?;
-    let width = state_length(table.len() / COLUMNS);
-    let state = read_whole(state, width).ok()?;
-    let demand = read_whole(demand, width).ok()?;
+    let cells = table.len() / COLUMNS;
+    let state = read_whole(state, state_length(cells)).ok()?;
+    let demand = read_whole(demand, demand_length(cells)).ok()?;
     Some(Corridor { table, state, demand, ..Corridor::default() })
 }
 
 fn run_as_texts(case: &Corridor) -> Texts {
-    let width = state_length(case.table.len() / COLUMNS);
+    let cells = case.table.len() / COLUMNS;
     let text = |numbers: &[u32], width: usize| {
         let mut text = Vec::new();
         for record in numbers.chunks(width) {
@@ -263,5 +264,9 @@ fn run_as_texts(case: &Corridor) -> Texts {
         }
         Some(text)
     };
-    Texts([text(&case.table, COLUMNS), text(&case.state, width), text(&case.demand, width)])
+    Texts([
+        text(&case.table, COLUMNS),
+        text(&case.state, state_length(cells)),
+        text(&case.demand, demand_length(cells)),
+    ])
 }

@@ -11,7 +11,7 @@ use std::process::ExitCode;
 use std::time::{Duration, Instant};
 
 use cases::{generate, generate_program, shrink, Case, Corridor, Outcome, TwoTables};
-use model::{Face, Refusal};
+use model::{Face, Refusal, COLUMNS};
 use options::Options;
 use program::Program;
 
@@ -118,20 +118,25 @@ fn yardstick_outcome(case: &Case) -> Option<Outcome> {
 }
 
 /// No vehicle comes from nowhere or goes there, in an accepted period, re-cut or join; what is left behind is an accepted
-/// state; and a re-cut is undone by a join.
+/// state, after a period with the modes of its sheet; and a re-cut is undone by a join.
 fn check_balance(case: &Case, outcome: &Outcome) -> Result<(), String> {
     let Outcome::Lists { word: 0, lists, .. } = outcome else {
         return Ok(());
     };
-    let sum = |list: &[u32]| list.iter().map(|&number| u64::from(number)).sum::<u64>();
     let (before, after, table, state) = match case {
         Case::Period(Corridor { table, state, demand, .. }) => {
-            let cells = table.len() / model::COLUMNS;
+            let cells = table.len() / COLUMNS;
             let [after, sheet] = &lists[..] else { unreachable!("a period writes two lists") };
+            if after[1 + 2 * cells..] != sheet[1 + 3 * cells..] {
+                return Err("the state and the sheet have other modes".into());
+            }
             let gone = u64::from(sheet[cells]) + sum(&sheet[1 + cells..1 + 2 * cells]);
-            (sum(state) + sum(&demand[..=cells]), sum(after) + gone, table, after)
+            (vehicles(table, state) + sum(&demand[..=cells]), vehicles(table, after) + gone, table, after)
         }
-        Case::Recut(case) | Case::Join(case) => (sum(&case.old_state), sum(&lists[0]), &case.new_table, &lists[0]),
+        Case::Recut(TwoTables { old_table, old_state, new_table, .. })
+        | Case::Join(TwoTables { old_table, old_state, new_table, .. }) => {
+            (vehicles(old_table, old_state), vehicles(new_table, &lists[0]), new_table, &lists[0])
+        }
         _ => return Ok(()),
     };
     if before != after {
@@ -145,7 +150,16 @@ fn check_balance(case: &Case, outcome: &Outcome) -> Result<(), String> {
     }
 }
 
-/// The join of what a re-cut left gives back the state before it.
+fn sum(list: &[u32]) -> u64 {
+    list.iter().map(|&number| u64::from(number)).sum()
+}
+
+/// The vehicles of a state: those at the entry, in the cells and at the on-ramps. Its modes are no vehicles.
+fn vehicles(table: &[u32], state: &[u32]) -> u64 {
+    sum(&state[..=2 * (table.len() / COLUMNS)])
+}
+
+/// The join of what a re-cut left gives back the whole state before it, its modes too.
 fn check_undone(recut: &TwoTables, left: &[u32]) -> Result<(), String> {
     match Case::Join(recut.joined_again(left)).model_outcome() {
         Outcome::Lists { word: 0, lists, .. } if lists[0] == recut.old_state => Ok(()),

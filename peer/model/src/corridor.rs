@@ -1,6 +1,11 @@
 //! Cell tables, states and demand rows, and what makes each acceptable.
 
-use crate::{state_length, Answer, Refusal, COLUMNS, MOST_CELLS, MOST_FLOW, MOST_JAM, MOST_QUEUE, MOST_RAMP, ONE};
+use std::array;
+use std::mem;
+
+use crate::{
+    demand_length, state_length, Answer, Refusal, COLUMNS, MOST_CELLS, MOST_FLOW, MOST_JAM, MOST_QUEUE, MOST_RAMP, ONE,
+};
 
 /// One row of a cell table, its columns by name.
 #[derive(Clone, Copy)]
@@ -14,12 +19,23 @@ pub(crate) struct Cell {
     pub c: u32,
     pub off: u32,
     pub b: u32,
+    pub dropped: u32,
 }
 
 impl Cell {
     #[inline]
-    pub fn of(&[v, w, capacity, jam, on, x, c, off, b]: &[u32; COLUMNS]) -> Cell {
-        Cell { v, w, capacity, jam, on, x, c, off, b }
+    pub fn of(&[v, w, capacity, jam, on, x, c, off, b, dropped]: &[u32; COLUMNS]) -> Cell {
+        Cell { v, w, capacity, jam, on, x, c, off, b, dropped }
+    }
+
+    /// The capacity that holds after a period in which the cell was in this mode.
+    #[inline]
+    pub fn capacity_after(&self, mode: u32) -> u32 {
+        if mode == 0 {
+            self.capacity
+        } else {
+            self.dropped
+        }
     }
 
     /// Each number is in its range.
@@ -37,6 +53,7 @@ impl Cell {
         within(self.v, 1, ONE)
             && within(self.w, 1, ONE)
             && within(self.capacity, 1, MOST_FLOW)
+            && within(self.dropped, 1, self.capacity)
             && within(self.jam, 1, MOST_JAM)
             && on_ramp
             && off_ramp
@@ -129,16 +146,16 @@ pub(crate) fn table_rules(rows: Rows) -> Answer {
 
 /// Number 5: a state number outside its range.
 pub(crate) fn state_rules(rows: Rows, state: &[u32]) -> Answer {
-    let (entry, counts, queues) = parts(rows.len(), state);
+    let (entry, [counts, queues, modes]) = parts(rows.len(), state);
     if entry > MOST_QUEUE {
         return Err(Refusal::new(5, 0));
     }
-    let breaks = |((row, &count), &queue): ((&[u32; COLUMNS], &u32), &u32)| {
+    let breaks = |(((row, &count), &queue), &mode): (((&[u32; COLUMNS], &u32), &u32), &u32)| {
         let cell = Cell::of(row);
         let most_queue = if cell.on == 0 { 0 } else { MOST_QUEUE };
-        count > cell.jam || queue > most_queue
+        count > cell.jam || queue > most_queue || mode > 1
     };
-    match rows.iter().zip(counts).zip(queues).position(breaks) {
+    match rows.iter().zip(counts).zip(queues).zip(modes).position(breaks) {
         None => Ok(()),
         Some(cell) => Err(Refusal::new(5, cell + 1)),
     }
@@ -147,8 +164,8 @@ pub(crate) fn state_rules(rows: Rows, state: &[u32]) -> Answer {
 /// Numbers 6 and 7: a demand outside its range, then a queue that its demand would take over the limit.
 #[inline]
 pub(crate) fn row_rules(rows: Rows, state: &[u32], demand: &[u32]) -> Answer {
-    let (entry_queue, _, queues) = parts(rows.len(), state);
-    let (entry, on, off) = parts(rows.len(), demand);
+    let (entry_queue, [_, queues, _]) = parts(rows.len(), state);
+    let (entry, [on, off]) = parts(rows.len(), demand);
 
     let mut broken = entry > MOST_FLOW;
     let mut full = entry_queue > MOST_QUEUE - entry.min(MOST_FLOW);
@@ -167,8 +184,8 @@ pub(crate) fn row_rules(rows: Rows, state: &[u32], demand: &[u32]) -> Answer {
 /// The number and place for a demand row that breaks a rule.
 #[cold]
 fn row_refusal(rows: Rows, state: &[u32], demand: &[u32]) -> Refusal {
-    let (entry_queue, _, queues) = parts(rows.len(), state);
-    let (entry, on, off) = parts(rows.len(), demand);
+    let (entry_queue, [_, queues, _]) = parts(rows.len(), state);
+    let (entry, [on, off]) = parts(rows.len(), demand);
     let place = |entry_breaks: bool, cell: Option<usize>| match entry_breaks {
         true => Some(0),
         false => cell.map(|cell| cell + 1),
@@ -186,10 +203,22 @@ fn row_refusal(rows: Rows, state: &[u32], demand: &[u32]) -> Refusal {
     Refusal::new(7, place.expect("a refused row breaks rule 6 or rule 7"))
 }
 
-/// A state or demand row as its first number and its two columns.
+/// A state, a demand row or a sheet as its first number and its columns, each with a number for every cell.
 #[inline]
-pub(crate) fn parts(cells: usize, list: &[u32]) -> (u32, &[u32], &[u32]) {
-    (list[0], &list[1..=cells], &list[cells + 1..=2 * cells])
+pub(crate) fn parts<const N: usize>(cells: usize, list: &[u32]) -> (u32, [&[u32]; N]) {
+    (list[0], array::from_fn(|column| &list[1 + column * cells..][..cells]))
+}
+
+/// The same parts of a list that is to be written.
+#[inline]
+pub(crate) fn parts_mut<const N: usize>(cells: usize, list: &mut [u32]) -> (&mut u32, [&mut [u32]; N]) {
+    let (first, mut rest) = list.split_first_mut().expect("a list has a first number");
+    let columns = array::from_fn(|_| {
+        let (column, later) = mem::take(&mut rest).split_at_mut(cells);
+        rest = later;
+        column
+    });
+    (first, columns)
 }
 
 /// Accepts a cell table: numbers 1 to 4.
@@ -209,7 +238,7 @@ pub fn accept_state(table: &[u32], state: &[u32]) -> Answer {
 pub fn accept_row(table: &[u32], state: &[u32], demand: &[u32]) -> Answer {
     let rows = rows(table)?;
     shape(state.len() == state_length(rows.len()))?;
-    shape(demand.len() == state_length(rows.len()))?;
+    shape(demand.len() == demand_length(rows.len()))?;
     table_rules(rows)?;
     state_rules(rows, state)?;
     row_rules(rows, state, demand)

@@ -1,6 +1,6 @@
 //! The join: a running corridor moves to a table of longer cells.
 
-use crate::corridor::{parts, shape};
+use crate::corridor::{parts, parts_mut, shape};
 use crate::pieces::{both_rows, both_rules, piece_rules};
 use crate::Answer;
 
@@ -16,17 +16,18 @@ pub fn join(old_table: &[u32], old_state: &[u32], groups: &[u32], new_table: &[u
 }
 
 /// Writes the new state. No sum overflows: it is at most the new cell's jam count, as no old count is over its own. No
-/// queue is lost: only the first of a group has an on-ramp.
+/// queue is lost: only the first of a group has an on-ramp. The last one's flow is the new cell's, and so is its mode.
 fn move_state(old_cells: usize, old_state: &[u32], groups: &[u32], new_state: &mut [u32]) {
-    let (entry, counts, queues) = parts(old_cells, old_state);
-    new_state[0] = entry;
-    let (new_counts, new_queues) = new_state[1..].split_at_mut(groups.len());
+    let (entry, [counts, queues, modes]) = parts(old_cells, old_state);
+    let (new_entry, [new_counts, new_queues, new_modes]) = parts_mut(groups.len(), new_state);
+    *new_entry = entry;
 
     let mut first = 0;
-    for ((&size, new_count), new_queue) in groups.iter().zip(new_counts).zip(new_queues) {
+    for (cell, &size) in groups.iter().enumerate() {
         let next = first + size as usize;
-        *new_count = counts[first..next].iter().sum();
-        *new_queue = queues[first];
+        new_counts[cell] = counts[first..next].iter().sum();
+        new_queues[cell] = queues[first];
+        new_modes[cell] = modes[next - 1];
         first = next;
     }
 }

@@ -29,7 +29,7 @@ pub use text::{decimal, read_whole, write_record, Next, Records, LONGEST_RECORD}
 /// The whole that shares are counted over.
 pub const ONE: u32 = 65_536;
 /// Numbers in a table row.
-pub const COLUMNS: usize = 9;
+pub const COLUMNS: usize = 10;
 /// The most cells a table has.
 pub const MOST_CELLS: usize = 512;
 /// The most demand rows a run takes.
@@ -45,8 +45,13 @@ pub const MOST_JAM: u32 = 4_000_000;
 /// The largest ramp number, and the largest x and b.
 pub const MOST_RAMP: u32 = 65_535;
 
-/// Numbers in the state of `cells` cells, and in one demand row.
+/// Numbers in the state of `cells` cells.
 pub const fn state_length(cells: usize) -> usize {
+    3 * cells + 1
+}
+
+/// Numbers in one demand row of `cells` cells.
+pub const fn demand_length(cells: usize) -> usize {
     2 * cells + 1
 }
 

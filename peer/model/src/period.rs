@@ -1,7 +1,7 @@
 //! One period of the model, and a run of periods.
 
-use crate::corridor::{row_rules, rows, shape, state_rules, table_rules, Cell, Rows};
-use crate::{sheet_length, state_length, Answer, Refusal, MOST_PERIODS, ONE};
+use crate::corridor::{parts, parts_mut, row_rules, rows, shape, state_rules, table_rules, Cell, Rows};
+use crate::{demand_length, sheet_length, state_length, Answer, Refusal, MOST_PERIODS, ONE};
 
 /// `share` over ONE of `vehicles`, rounded down.
 #[inline]
@@ -11,21 +11,14 @@ fn part(share: u32, vehicles: u32) -> u32 {
 
 /// Takes an accepted state through one period of an accepted demand row and writes the period's sheet.
 ///
-/// Everything is worked out from the counts at the period's start: the pass goes down the road, so the count of the next
-/// cell is still the old one when its room is asked for, and the flow from upstream is carried along.
+/// Everything is worked out from the counts and modes at the period's start: the pass goes down the road, so the count of
+/// the next cell is still the old one when its room is asked for, and the flow from upstream is carried along. A cell's old
+/// mode says which capacity holds, and only then does the new one take its place.
 pub(crate) fn step(rows: Rows, state: &mut [u32], demand: &[u32], sheet: &mut [u32]) {
     let cells = rows.len();
-    let (entry_queue, rest) = state.split_first_mut().expect("a state has an entry queue");
-    let (counts, queues) = rest.split_at_mut(cells);
-    let queues = &mut queues[..cells];
-    let (&entry_demand, rest) = demand.split_first().expect("a row has an entry demand");
-    let (on_demand, off_demand) = rest.split_at(cells);
-    let off_demand = &off_demand[..cells];
-    let (entry_flow, rest) = sheet.split_first_mut().expect("a sheet has an entry flow");
-    let (flows, rest) = rest.split_at_mut(cells);
-    let (off_flows, rest) = rest.split_at_mut(cells);
-    let (on_flows, modes) = rest.split_at_mut(cells);
-    let modes = &mut modes[..cells];
+    let (entry_queue, [counts, queues, modes]) = parts_mut(cells, state);
+    let (entry_demand, [on_demand, off_demand]) = parts(cells, demand);
+    let (entry_flow, [flows, off_flows, on_flows, sheet_modes]) = parts_mut(cells, sheet);
 
     let room = |cell: &Cell, count: u32| part(cell.w, cell.jam - count);
 
@@ -38,7 +31,7 @@ pub(crate) fn step(rows: Rows, state: &mut [u32], demand: &[u32], sheet: &mut [u
     for i in 0..cells {
         let count = counts[i];
         let mut next = cell;
-        let mut most = cell.capacity;
+        let mut most = cell.capacity_after(modes[i]);
         if i + 1 < cells {
             next = Cell::of(&rows[i + 1]);
             most = most.min(room(&next, counts[i + 1]));
@@ -67,6 +60,7 @@ pub(crate) fn step(rows: Rows, state: &mut [u32], demand: &[u32], sheet: &mut [u
         off_flows[i] = off_flow;
         on_flows[i] = on_flow;
         modes[i] = u32::from(wanted >= most);
+        sheet_modes[i] = modes[i];
 
         inflow = flow;
         cell = next;
@@ -84,7 +78,7 @@ pub(crate) fn step_indexed(rows: Rows, state: &mut [u32], demand: &[u32], sheet:
     for i in 0..n {
         let cell = Cell::of(&rows[i]);
         let count = state[1 + i];
-        let mut most = cell.capacity;
+        let mut most = cell.capacity_after(state[1 + 2 * n + i]);
         if i + 1 < n {
             most = most.min(room(&Cell::of(&rows[i + 1]), state[2 + i]));
         }
@@ -108,7 +102,8 @@ pub(crate) fn step_indexed(rows: Rows, state: &mut [u32], demand: &[u32], sheet:
         sheet[1 + i] = flow;
         sheet[1 + n + i] = off_flow;
         sheet[1 + 2 * n + i] = on_flow;
-        sheet[1 + 3 * n + i] = u32::from(wanted >= most);
+        state[1 + 2 * n + i] = u32::from(wanted >= most);
+        sheet[1 + 3 * n + i] = state[1 + 2 * n + i];
     }
 }
 
@@ -116,7 +111,7 @@ pub(crate) fn step_indexed(rows: Rows, state: &mut [u32], demand: &[u32], sheet:
 pub fn period(table: &[u32], state: &mut [u32], demand: &[u32], sheet: &mut [u32]) -> Answer {
     let rows = rows(table)?;
     shape(state.len() == state_length(rows.len()))?;
-    shape(demand.len() == state_length(rows.len()))?;
+    shape(demand.len() == demand_length(rows.len()))?;
     shape(sheet.len() == sheet_length(rows.len()))?;
     table_rules(rows)?;
     state_rules(rows, state)?;
@@ -179,8 +174,8 @@ fn run_counting(
     periods: &mut u32,
 ) -> Answer {
     let rows = rows(table)?;
-    let row_length = state_length(rows.len());
-    shape(state.len() == row_length)?;
+    let row_length = demand_length(rows.len());
+    shape(state.len() == state_length(rows.len()))?;
     shape(demand.len().is_multiple_of(row_length) && demand.len() / row_length <= MOST_PERIODS)?;
     shape(sheet.len() == sheet_length(rows.len()))?;
     table_rules(rows)?;

@@ -2,10 +2,10 @@
 
 use std::io::{self, ErrorKind, Read, Write};
 
-use crate::corridor::{row_rules, rows, state_rules, table_rules};
+use crate::corridor::{parts, row_rules, rows, state_rules, table_rules};
 use crate::period::step;
 use crate::text::{decimal, write_record, Next, Records};
-use crate::{sheet_length, state_length, Refusal, COLUMNS, MOST_CELLS};
+use crate::{demand_length, sheet_length, state_length, Refusal, COLUMNS, MOST_CELLS};
 
 /// The three files, with the numbers they have in a refusal line.
 #[derive(Clone, Copy, Debug, PartialEq, Eq)]
@@ -119,7 +119,7 @@ fn periods<R: Read>(
     state_rules(rows, &state).map_err(|refusal| Stop::rule(0, refusal))?;
 
     let mut demand = open(File::Demand)?;
-    let mut row = vec![0; state_length(rows.len())];
+    let mut row = vec![0; demand_length(rows.len())];
     let mut sheet = vec![0; sheet_length(rows.len())];
     for period in 1.. {
         match demand.next(&mut row).map_err(Stop::lost(period, File::Demand))? {
@@ -190,11 +190,9 @@ fn write_period(text: &mut Vec<u8>, period: u64, cells: usize, state: &[u32], sh
         text.extend_from_slice(&bytes[at..]);
     };
 
-    line(0, [state[0], sheet[0], 0, 0, 0]);
-    let counts = &state[1..=cells];
-    let (flows, rest) = sheet[1..].split_at(cells);
-    let (off_flows, rest) = rest.split_at(cells);
-    let (on_flows, modes) = rest.split_at(cells);
+    let (entry_queue, [counts]) = parts(cells, state);
+    let (entry_flow, [flows, off_flows, on_flows, modes]) = parts(cells, sheet);
+    line(0, [entry_queue, entry_flow, 0, 0, 0]);
     for (cell, ((((&count, &f), &s), &r), &mode)) in
         counts.iter().zip(flows).zip(off_flows).zip(on_flows).zip(modes).enumerate()
     {

@@ -1,10 +1,10 @@
 //! The re-cut: a running corridor moves to a table of shorter cells.
 
-use crate::corridor::{parts, shape, Cell, Rows};
+use crate::corridor::{parts, parts_mut, shape, Cell, Rows};
 use crate::pieces::{both_rows, both_rules, piece_rules, with_pieces};
 use crate::Answer;
 
-/// Cuts each old cell into its count of new cells and shares its vehicles and queue out: numbers 1 to 5 and 8.
+/// Cuts each old cell into its count of new cells and shares out its vehicles, queue and mode: numbers 1 to 5 and 8.
 pub fn recut(old_table: &[u32], old_state: &[u32], pieces: &[u32], new_table: &[u32], new_state: &mut [u32]) -> Answer {
     let (old, new) = both_rows(old_table, old_state, new_table, new_state)?;
     shape(pieces.len() == old.len())?;
@@ -14,16 +14,20 @@ pub fn recut(old_table: &[u32], old_state: &[u32], pieces: &[u32], new_table: &[
     Ok(())
 }
 
-/// Writes the new state. A piece gets the vehicles up to and including it less those before it, each rounded down.
+/// Writes the new state. A piece gets the vehicles up to and including it less those before it, each rounded down. The
+/// queue goes to the first piece, where the on-ramp is, and the mode to the last one, whose flow is the cell's.
 fn move_state(old: Rows, old_state: &[u32], pieces: &[u32], new: Rows, new_state: &mut [u32]) {
-    let (entry, counts, queues) = parts(old.len(), old_state);
-    new_state[0] = entry;
-    let (new_counts, new_queues) = new_state[1..].split_at_mut(new.len());
+    let (entry, [counts, queues, modes]) = parts(old.len(), old_state);
+    let (new_entry, [new_counts, new_queues, new_modes]) = parts_mut(new.len(), new_state);
+    *new_entry = entry;
     new_queues.fill(0);
+    new_modes.fill(0);
 
     let mut at = 0;
-    for ((cell, mine), (&count, &queue)) in with_pieces(old, pieces, new).zip(counts.iter().zip(queues)) {
+    let before = counts.iter().zip(queues).zip(modes);
+    for ((cell, mine), ((&count, &queue), &mode)) in with_pieces(old, pieces, new).zip(before) {
         new_queues[at] = queue;
+        new_modes[at + mine.len() - 1] = mode;
         let (mut jam, mut given) = (0, 0);
         for (row, new_count) in mine.iter().zip(&mut new_counts[at..]) {
             jam += u64::from(Cell::of(row).jam);

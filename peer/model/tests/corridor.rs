@@ -2,25 +2,32 @@
 
 mod common;
 
-use common::{order_of_tables, refused, row, table, three_pieces, CLOSED};
+use common::{order_of_tables, refused, row, table, three_pieces, Row, CLOSED};
 use model::*;
 
 #[test]
 fn printed_period() {
     let table = table(&[CLOSED, CLOSED]);
-    let mut state = [500, 8_000, 4_000, 0, 0];
+    let mut state = [500, 8_000, 4_000, 0, 0, 0, 0];
     let mut sheet = [9; 9];
     assert_eq!(period(&table, &mut state, &[300, 0, 0, 0, 0], &mut sheet), Ok(()));
-    assert_eq!(state, [300, 7_000, 3_500, 0, 0]);
+    assert_eq!(state, [300, 7_000, 3_500, 0, 0, 1, 1]);
     assert_eq!(sheet, [500, 1_500, 2_000, 0, 0, 0, 0, 1, 1]);
-    assert_eq!(state.iter().sum::<u32>(), 12_500 + 300 - 2_000);
+    assert_eq!(state[..5].iter().sum::<u32>(), 12_500 + 300 - 2_000);
 }
 
-/// One cell and one period: the state after it and its sheet.
-fn one_cell(row: [u32; 9], mut state: [u32; 3], demand: [u32; 3]) -> ([u32; 3], [u32; 5]) {
-    let mut sheet = [0; 5];
+/// One cell and one period after one in mode 0: the queues and the count after it, and its sheet.
+fn one_cell(row: Row, state: [u32; 3], demand: [u32; 3]) -> ([u32; 3], [u32; 5]) {
+    one_cell_after(0, row, state, demand)
+}
+
+/// The same after a period in this mode. The mode in the state is then the sheet's.
+fn one_cell_after(mode: u32, row: Row, [entry, count, queue]: [u32; 3], demand: [u32; 3]) -> ([u32; 3], [u32; 5]) {
+    let (mut state, mut sheet) = ([entry, count, queue, mode], [0; 5]);
     assert_eq!(period(&row, &mut state, &demand, &mut sheet), Ok(()));
-    (state, sheet)
+    let [entry, count, queue, mode] = state;
+    assert_eq!(mode, sheet[4]);
+    ([entry, count, queue], sheet)
 }
 
 #[test]
@@ -50,7 +57,7 @@ fn what_leaves_was_there() {
 
 #[test]
 fn full_cell() {
-    let cell = [1, 49_152, 1, 10_000, 3, 16_384, 1_000_000, 0, 0];
+    let cell = [1, 49_152, 1, 10_000, 3, 16_384, 1_000_000, 0, 0, 1];
     let (state, sheet) = one_cell(cell, [0, 9_000, 2_000], [5_000, 0, 0]);
     assert_eq!(state, [4_250, 10_000, 1_750]);
     assert_eq!(sheet, [750, 0, 0, 250, 0]);
@@ -80,7 +87,7 @@ fn mode_is_one_at_a_tie() {
     // R of the next cell: a quarter of 10,000 − 6,000 is 1,000.
     let table = table(&[CLOSED, CLOSED]);
     for (count, mode) in [(1_998, 0), (2_000, 1)] {
-        let mut state = [0, count, 6_000, 0, 0];
+        let mut state = [0, count, 6_000, 0, 0, 0, 0];
         let mut sheet = [0; 9];
         assert_eq!(period(&table, &mut state, &[0; 5], &mut sheet), Ok(()));
         assert_eq!(sheet[7], mode);
@@ -91,16 +98,16 @@ fn mode_is_one_at_a_tie() {
 fn every_flow_is_from_the_old_state() {
     // The second cell is full: the first sends nothing although the second empties in the same period.
     let table = table(&[CLOSED, CLOSED]);
-    let mut state = [0, 8_000, 10_000, 0, 0];
+    let mut state = [0, 8_000, 10_000, 0, 0, 0, 0];
     let mut sheet = [0; 9];
     assert_eq!(period(&table, &mut state, &[0; 5], &mut sheet), Ok(()));
-    assert_eq!(state, [0, 8_000, 8_000, 0, 0]);
+    assert_eq!(state, [0, 8_000, 8_000, 0, 0, 1, 1]);
 }
 
 #[test]
 fn table_lengths() {
     assert_eq!(accept_table(&[]), refused(1, 0));
-    assert_eq!(accept_table(&CLOSED[..8]), refused(1, 0));
+    assert_eq!(accept_table(&CLOSED[..9]), refused(1, 0));
     assert_eq!(accept_table(&CLOSED), Ok(()));
     assert_eq!(accept_table(&CLOSED.repeat(512)), Ok(()));
     assert_eq!(accept_table(&CLOSED.repeat(513)), refused(1, 0));
@@ -111,13 +118,13 @@ fn table_lengths() {
 
 #[test]
 fn table_ranges() {
-    let good = [1, 1, 1, 1, 0, 0, 0, 0, 0];
-    let ramps = [1, 1, 1, 1, 5, 1, 1, 6, 0];
+    let good = [1, 1, 1, 1, 0, 0, 0, 0, 0, 1];
+    let ramps = [1, 1, 1_000_000, 1, 5, 1, 1, 6, 0, 1];
     assert_eq!(accept_table(&good), Ok(()));
     assert_eq!(accept_table(&ramps), Ok(()));
     // column, largest, whether 0 is in range, of a row with both ramps
-    let most = [65_536, 65_536, 1_000_000, 4_000_000, 65_535, 65_535, 1_000_000, 65_535, 65_535];
-    for column in 0..9 {
+    let most = [65_536, 65_536, 1_000_000, 4_000_000, 65_535, 65_535, 1_000_000, 65_535, 65_535, 1_000_000];
+    for column in 0..COLUMNS {
         let with = |number| {
             let mut row = ramps;
             row[column] = number;
@@ -144,7 +151,7 @@ fn table_ranges() {
 
 #[test]
 fn shares_of_room() {
-    let cell = |w, x| [1, w, 1, 1, 9, x, 1, 0, 0];
+    let cell = |w, x| [1, w, 1, 1, 9, x, 1, 0, 0, 1];
     assert_eq!(accept_table(&cell(65_535, 1)), Ok(()));
     assert_eq!(accept_table(&cell(65_536, 1)), refused(3, 1));
     assert_eq!(accept_table(&cell(1, 65_535)), Ok(()));
@@ -172,21 +179,27 @@ fn ramps_used_again() {
 fn states() {
     let table = table(&[row(&[(4, 5), (5, 1), (6, 1)]), CLOSED]);
     let accept = |state: &[u32]| accept_state(&table, state);
-    assert_eq!(accept(&[1_000_000_000, 10_000, 10_000, 1_000_000_000, 0]), Ok(()));
-    assert_eq!(accept(&[1_000_000_001, 10_001, 0, 0, 0]), refused(5, 0));
-    assert_eq!(accept(&[0, 10_001, 0, 0, 0]), refused(5, 1));
-    assert_eq!(accept(&[0, 0, 10_001, 0, 0]), refused(5, 2));
-    assert_eq!(accept(&[0, 0, 10_001, 1_000_000_001, 0]), refused(5, 1));
-    assert_eq!(accept(&[0, 0, 0, 0, 1]), refused(5, 2));
-    assert_eq!(accept(&[0; 4]), refused(1, 0));
-    assert_eq!(accept(&[0; 6]), refused(1, 0));
+    assert_eq!(accept(&[1_000_000_000, 10_000, 10_000, 1_000_000_000, 0, 1, 1]), Ok(()));
+    assert_eq!(accept(&[1_000_000_001, 10_001, 0, 0, 0, 0, 0]), refused(5, 0));
+    assert_eq!(accept(&[0, 10_001, 0, 0, 0, 0, 0]), refused(5, 1));
+    assert_eq!(accept(&[0, 0, 10_001, 0, 0, 0, 0]), refused(5, 2));
+    assert_eq!(accept(&[0, 0, 10_001, 1_000_000_001, 0, 0, 0]), refused(5, 1));
+    assert_eq!(accept(&[0, 0, 0, 0, 1, 0, 0]), refused(5, 2));
+    // a mode is 0 or 1, and 5 is given at the smallest cell whatever its number
+    assert_eq!(accept(&[0, 0, 0, 0, 0, 2, 0]), refused(5, 1));
+    assert_eq!(accept(&[0, 0, 0, 0, 0, 1, 2]), refused(5, 2));
+    assert_eq!(accept(&[0, 0, 0, 0, 0, 0, u32::MAX]), refused(5, 2));
+    assert_eq!(accept(&[0, 0, 10_001, 0, 0, 2, 0]), refused(5, 1));
+    for length in [0, 1, 5, 6, 8] {
+        assert_eq!(accept(&vec![0; length]), refused(1, 0), "length {length}");
+    }
 }
 
 #[test]
 fn demand_rows() {
     let rows = [row(&[(4, 5), (5, 1), (6, 1)]), row(&[(7, 6)]), row(&[(7, 7), (8, 1)])];
     let table = table(&rows);
-    let accept = |row: &[u32]| accept_row(&table, &[0; 7], row);
+    let accept = |row: &[u32]| accept_row(&table, &[0; 10], row);
     assert_eq!(accept(&[1_000_000, 1_000_000, 0, 0, 0, 1_000_000, 0]), Ok(()));
     assert_eq!(accept(&[1_000_001, 0, 0, 0, 0, 0, 0]), refused(6, 0));
     assert_eq!(accept(&[0, 1_000_001, 0, 0, 0, 0, 0]), refused(6, 1));
@@ -196,12 +209,14 @@ fn demand_rows() {
     assert_eq!(accept(&[0, 0, 0, 0, 0, 0, 1]), refused(6, 3));
     assert_eq!(accept(&[u32::MAX; 7]), refused(6, 0));
     assert_eq!(accept(&[0; 6]), refused(1, 0));
+    // as long as the state
+    assert_eq!(accept(&[0; 10]), refused(1, 0));
 }
 
 #[test]
 fn queues_with_their_demands() {
     let table = table(&[CLOSED, row(&[(4, 5), (5, 1), (6, 1)])]);
-    let accept = |entry, queue, row: [u32; 5]| accept_row(&table, &[entry, 0, 0, 0, queue], &row);
+    let accept = |entry, queue, row: [u32; 5]| accept_row(&table, &[entry, 0, 0, 0, queue, 0, 0], &row);
     assert_eq!(accept(999_999_999, 999_999_998, [1, 0, 2, 0, 0]), Ok(()));
     assert_eq!(accept(1_000_000_000, 1_000_000_000, [0; 5]), Ok(()));
     assert_eq!(accept(999_999_999, 1_000_000_000, [2, 0, 1, 0, 0]), refused(7, 0));
@@ -212,18 +227,25 @@ fn queues_with_their_demands() {
 
 #[test]
 fn a_refused_period_changes_nothing() {
-    let mut state = [5, 6, 7];
     let mut sheet = [1, 2, 3, 4, 5];
+    let mut state = [5, 6, 7, 1];
     assert_eq!(period(&CLOSED, &mut state, &[0; 3], &mut sheet), refused(5, 1));
     assert_eq!(period(&CLOSED, &mut state, &[0; 3], &mut sheet[..4]), refused(1, 0));
-    assert_eq!((state, sheet), ([5, 6, 7], [1, 2, 3, 4, 5]));
+    assert_eq!((state, sheet), ([5, 6, 7, 1], [1, 2, 3, 4, 5]));
+    // The cell would be free in this period, and congested in one from a count of 4,000: the mode stays as it came.
+    for state in [[5, 6, 0, 1], [5, 4_000, 0, 0]] {
+        let mut moving = state;
+        assert_eq!(period(&CLOSED, &mut moving, &[1_000_001, 0, 0], &mut sheet), refused(6, 0));
+        assert_eq!(period(&CLOSED, &mut moving, &[0, 1, 0], &mut sheet), refused(6, 1));
+        assert_eq!((moving, sheet), (state, [1, 2, 3, 4, 5]));
+    }
 }
 
 #[test]
 fn runs() {
     let rows = [CLOSED, row(&[(4, 5), (5, 100), (6, 50)]), row(&[(7, 6), (8, 9_000)])];
     let table = table(&rows);
-    let start = [40, 900, 800, 700, 0, 60, 0];
+    let start = [40, 900, 800, 700, 0, 60, 0, 1, 0, 1];
     let rows: Vec<[u32; 7]> = (0..30).map(|k| [k * 10, 0, k, 0, 0, 0, 0]).collect();
 
     let (mut state, mut sheet) = (start, [0; 13]);
@@ -251,13 +273,15 @@ fn runs() {
 #[test]
 fn run_shapes() {
     let mut sheet = [8; 5];
-    let mut state = [1, 2, 0];
+    let mut state = [1, 2, 0, 1];
     let mut go = |demand: &[u32]| run(&CLOSED, &mut state, demand, &mut sheet);
     assert_eq!(go(&[]), RunAnswer { periods: 0, answer: Ok(()) });
     assert_eq!(go(&[0; 2]), RunAnswer { periods: 0, answer: refused(1, 0) });
     assert_eq!(go(&[0; 3 * 4_097]), RunAnswer { periods: 0, answer: refused(1, 0) });
     assert_eq!(go(&[0, 1, 0]), RunAnswer { periods: 0, answer: refused(6, 1) });
-    assert_eq!((state, sheet), ([1, 2, 0], [8; 5]));
+    // as long as the state
+    assert_eq!(go(&[0; 4]), RunAnswer { periods: 0, answer: refused(1, 0) });
+    assert_eq!((state, sheet), ([1, 2, 0, 1], [8; 5]));
     assert_eq!(run(&CLOSED, &mut state, &[0; 3 * 4_096], &mut sheet).periods, 4_096);
     assert_eq!(run(&CLOSED, &mut state, &[], &mut sheet[..4]).answer, refused(1, 0));
 }
@@ -265,21 +289,38 @@ fn run_shapes() {
 #[test]
 fn a_run_refused_when_its_queue_grows() {
     // Nothing enters, so each row of 400,000 stays in the queue.
-    let full = [1, 1, 1, 1, 0, 0, 0, 0, 0];
-    let mut state = [999_000_000, 1, 0];
+    let full = [1, 1, 1, 1, 0, 0, 0, 0, 0, 1];
+    let mut state = [999_000_000, 1, 0, 0];
     let mut sheet = [0; 5];
     let answer = run(&full, &mut state, &[400_000, 0, 0].repeat(5), &mut sheet);
     assert_eq!(answer, RunAnswer { periods: 2, answer: refused(7, 0) });
-    assert_eq!(state, [999_800_000, 1, 0]);
+    assert_eq!(state, [999_800_000, 1, 0, 0]);
 }
 
 #[test]
 fn shared_out() {
     let (old, pieces) = three_pieces();
     for (count, counts) in [(7, [2, 2, 3]), (1, [0, 0, 1]), (10, [3, 3, 4]), (0, [0, 0, 0])] {
-        let mut new = [99; 7];
-        assert_eq!(recut(&old, &[8, count, 9], &[3], &table(&pieces), &mut new), Ok(()));
-        assert_eq!(new, [8, counts[0], counts[1], counts[2], 9, 0, 0]);
+        for mode in [0, 1] {
+            let mut new = [99; 10];
+            assert_eq!(recut(&old, &[8, count, 9, mode], &[3], &table(&pieces), &mut new), Ok(()));
+            // the queue at the first piece, the mode at the last
+            assert_eq!(new, [8, counts[0], counts[1], counts[2], 9, 0, 0, 0, 0, mode]);
+        }
+    }
+}
+
+#[test]
+fn modes_of_several_cells_cut() {
+    let (old, pieces) = three_pieces();
+    let olds = table(&[CLOSED, old, CLOSED]);
+    let halves = row(&[(3, 5_000)]);
+    let news = table(&[CLOSED, pieces[0], pieces[1], pieces[2], halves, halves]);
+    for modes in [[0, 0, 0], [1, 0, 0], [0, 1, 0], [0, 0, 1], [1, 1, 1]] {
+        let state = [&[0; 7][..], &modes].concat();
+        let mut new = [99; 19];
+        assert_eq!(recut(&olds, &state, &[1, 3, 2], &news, &mut new), Ok(()));
+        assert_eq!(new[13..], [modes[0], 0, 0, modes[1], 0, modes[2]]);
     }
 }
 
@@ -287,17 +328,17 @@ fn shared_out() {
 fn cut_rules() {
     let (old, pieces) = three_pieces();
     let olds = table(&[CLOSED, old, row(&[(7, 8)])]);
-    let state = [1, 2, 3, 4, 0, 6, 0];
+    let state = [1, 2, 3, 4, 0, 6, 0, 1, 1, 0];
     let news = table(&[CLOSED, pieces[0], pieces[1], pieces[2], row(&[(7, 8)])]);
     let go = |counts: &[u32], news: &[u32]| {
-        let mut new = [77; 11];
+        let mut new = [77; 16];
         let answer = recut(&olds, &state, counts, news, &mut new);
-        assert!(answer == Ok(()) || new == [77; 11]);
+        assert!(answer == Ok(()) || new == [77; 16]);
         answer
     };
     let damaged = |at: usize, column: usize, number: u32| {
         let mut news = news.clone();
-        news[at * 9 + column] = number;
+        news[at * COLUMNS + column] = number;
         go(&[1, 3, 1], &news)
     };
     assert_eq!(go(&[1, 3, 1], &news), Ok(()));
@@ -320,9 +361,13 @@ fn cut_rules() {
     assert_eq!(damaged(4, 8, 1), refused(8, 3));
     assert_eq!(damaged(0, 7, 1_000), refused(8, 1));
     assert_eq!(damaged(0, 0, 0), refused(2, 1));
+    // the dropped capacity is free within its own range: this piece has F 31
+    assert_eq!(damaged(1, 9, 31), Ok(()));
+    assert_eq!(damaged(1, 9, 32), refused(2, 2));
+    assert_eq!(damaged(1, 9, 0), refused(2, 2));
 }
 
 #[test]
 fn cut_order() {
-    order_of_tables(|old, state, new| recut(old, state, &[1, 1], new, &mut [0; 3]));
+    order_of_tables(|old, state, new| recut(old, state, &[1, 1], new, &mut [0; 4]));
 }

@@ -2,25 +2,25 @@
 
 mod common;
 
-use common::{order_of_tables, refused, row, table, three_pieces, CLOSED};
+use common::{order_of_tables, refused, row, table, three_pieces, Row, CLOSED};
 use model::*;
 
 /// The closed cell, the three pieces and a cell with an off-ramp, in a state, and what they are joined into.
 struct Road {
     olds: Vec<u32>,
-    state: [u32; 11],
+    state: [u32; 16],
     news: Vec<u32>,
 }
 
 /// What new-state lists hold before a join.
-const BEFORE: [u32; 7] = [77; 7];
+const BEFORE: [u32; 10] = [77; 10];
 
 fn road() -> Road {
     let (cell, pieces) = three_pieces();
     let off = row(&[(7, 8)]);
     Road {
         olds: table(&[CLOSED, pieces[0], pieces[1], pieces[2], off]),
-        state: [6, 100, 3, 1, 2, 400, 0, 9, 0, 0, 0],
+        state: [6, 100, 3, 1, 2, 400, 0, 9, 0, 0, 0, 1, 1, 1, 0, 1],
         news: table(&[CLOSED, cell, off]),
     }
 }
@@ -51,10 +51,22 @@ impl Road {
 fn counts_add_up() {
     let (cell, pieces) = three_pieces();
     for counts in [[2, 2, 3], [0, 0, 1], [3, 3, 4], [0, 0, 0], [3, 0, 4]] {
-        let mut new = [99; 3];
-        let state = [8, counts[0], counts[1], counts[2], 9, 0, 0];
+        let mut new = [99; 4];
+        let state = [8, counts[0], counts[1], counts[2], 9, 0, 0, 0, 0, 0];
         assert_eq!(join(&table(&pieces), &state, &[3], &cell, &mut new), Ok(()));
-        assert_eq!(new, [8, counts.iter().sum(), 9]);
+        assert_eq!(new, [8, counts.iter().sum(), 9, 0]);
+    }
+}
+
+#[test]
+fn the_mode_of_the_last() {
+    let (cell, pieces) = three_pieces();
+    for modes in 0..8 {
+        let [first, second, last] = [modes & 1, modes >> 1 & 1, modes >> 2];
+        let mut new = [99; 4];
+        let state = [8, 2, 2, 3, 9, 0, 0, first, second, last];
+        assert_eq!(join(&table(&pieces), &state, &[3], &cell, &mut new), Ok(()));
+        assert_eq!(new, [8, 7, 9, last]);
     }
 }
 
@@ -63,23 +75,24 @@ fn groups_of_several_sizes() {
     let Road { olds, state, news } = road();
     let mut new = BEFORE;
     assert_eq!(join(&olds, &state, &[1, 3, 1], &news, &mut new), Ok(()));
-    assert_eq!(new, [6, 100, 6, 400, 0, 9, 0]);
+    assert_eq!(new, [6, 100, 6, 400, 0, 9, 0, 1, 0, 1]);
 }
 
 #[test]
 fn most_cells() {
-    let state = |counts: &[u32], cells: usize| [&[5][..], counts, &vec![0; cells][..]].concat();
     let counts: Vec<u32> = (0..512).collect();
+    let modes: Vec<u32> = (0..512).map(|cell| cell % 2).collect();
+    let state = [&[5][..], &counts, &[0; 512], &modes].concat();
     let olds = row(&[(3, 600)]).repeat(512);
 
-    let mut new = [0; 3];
+    let mut new = [0; 4];
     let whole = row(&[(3, 600 * 512)]);
-    assert_eq!(join(&olds, &state(&counts, 512), &[512], &whole, &mut new), Ok(()));
-    assert_eq!(new, [5, 511 * 256, 0]);
+    assert_eq!(join(&olds, &state, &[512], &whole, &mut new), Ok(()));
+    assert_eq!(new, [5, 511 * 256, 0, 1]);
 
-    let mut new = [9; 1_025];
-    assert_eq!(join(&olds, &state(&counts, 512), &[1; 512], &olds, &mut new), Ok(()));
-    assert_eq!(new, state(&counts, 512)[..]);
+    let mut new = [9; 1_537];
+    assert_eq!(join(&olds, &state, &[1; 512], &olds, &mut new), Ok(()));
+    assert_eq!(new, state[..]);
 }
 
 #[test]
@@ -105,10 +118,10 @@ fn group_sizes() {
 
 #[test]
 fn an_empty_last_group() {
-    let mut new = [7; 5];
+    let mut new = [7; 7];
     let news = table(&[row(&[(3, 20_000)]), CLOSED]);
-    assert_eq!(join(&CLOSED.repeat(2), &[0; 5], &[2, 0], &news, &mut new), refused(14, 2));
-    assert_eq!(new, [7; 5]);
+    assert_eq!(join(&CLOSED.repeat(2), &[0; 7], &[2, 0], &news, &mut new), refused(14, 2));
+    assert_eq!(new, [7; 7]);
 }
 
 #[test]
@@ -122,7 +135,7 @@ fn jam_counts() {
     assert_eq!(road().with_new(0, 3, 10_001), refused(14, 1));
     // a sum that no row can have
     let full = row(&[(3, 4_000_000)]);
-    assert_eq!(join(&full.repeat(2), &[0; 5], &[2], &full, &mut [0; 3]), refused(14, 1));
+    assert_eq!(join(&full.repeat(2), &[0; 7], &[2], &full, &mut [0; 4]), refused(14, 1));
 }
 
 #[test]
@@ -152,16 +165,19 @@ fn on_ramp_after_the_first() {
     // it may not be the group's only one either
     let ramp = row(&[(4, 3), (5, 1), (6, 1)]);
     let whole = row(&[(3, 20_000), (4, 3), (5, 1), (6, 1)]);
-    let go = |olds: [[u32; 9]; 2]| join(&table(&olds), &[0; 5], &[2], &whole, &mut [0; 3]);
+    let go = |olds: [Row; 2]| join(&table(&olds), &[0; 7], &[2], &whole, &mut [0; 4]);
     assert_eq!(go([CLOSED, ramp]), refused(14, 1));
     assert_eq!(go([ramp, CLOSED]), Ok(()));
 }
 
 #[test]
 fn what_is_free() {
-    for (column, number) in [(0, 65_536), (1, 65_000), (2, 1), (5, 65_000)] {
+    for (column, number) in [(0, 65_536), (1, 65_000), (2, 1_000_000), (5, 65_000), (9, 1), (9, 30)] {
         assert_eq!(road().with_new(1, column, number), Ok(()), "column {column}");
     }
+    // within its own range: the new cell has F 30
+    assert_eq!(road().with_new(1, 9, 31), refused(2, 2));
+    assert_eq!(road().with_new(1, 9, 0), refused(2, 2));
 }
 
 #[test]
@@ -170,40 +186,45 @@ fn lengths() {
     let go = |olds: &[u32], state: &[u32], groups: &[u32], news: &[u32], length: usize| {
         join(olds, state, groups, news, &mut vec![0; length])
     };
-    assert_eq!(go(&olds, &state, &[1, 3, 1], &news, 7), Ok(()));
-    assert_eq!(go(&olds[1..], &state, &[1, 3, 1], &news, 7), refused(1, 0));
-    assert_eq!(go(&olds, &state[1..], &[1, 3, 1], &news, 7), refused(1, 0));
-    assert_eq!(go(&olds, &state, &[1, 3, 1], &news[1..], 7), refused(1, 0));
-    assert_eq!(go(&olds, &state, &[1, 3, 1], &news, 8), refused(1, 0));
+    assert_eq!(go(&olds, &state, &[1, 3, 1], &news, 10), Ok(()));
+    assert_eq!(go(&olds[1..], &state, &[1, 3, 1], &news, 10), refused(1, 0));
+    assert_eq!(go(&olds, &state[1..], &[1, 3, 1], &news, 10), refused(1, 0));
+    assert_eq!(go(&olds, &state[..11], &[1, 3, 1], &news, 10), refused(1, 0));
+    assert_eq!(go(&olds, &state, &[1, 3, 1], &news[1..], 10), refused(1, 0));
+    assert_eq!(go(&olds, &state, &[1, 3, 1], &news, 11), refused(1, 0));
+    assert_eq!(go(&olds, &state, &[1, 3, 1], &news, 7), refused(1, 0));
     // one size for each new cell, not for each old one
-    assert_eq!(go(&olds, &state, &[1, 4], &news, 7), refused(1, 0));
-    assert_eq!(go(&olds, &state, &[1; 5], &news, 7), refused(1, 0));
+    assert_eq!(go(&olds, &state, &[1, 4], &news, 10), refused(1, 0));
+    assert_eq!(go(&olds, &state, &[1; 5], &news, 10), refused(1, 0));
     // no cell, and one too many
-    assert_eq!(go(&[], &[0], &[0], &CLOSED, 3), refused(1, 0));
-    assert_eq!(go(&CLOSED, &[0; 3], &[], &[], 1), refused(1, 0));
-    assert_eq!(go(&CLOSED.repeat(513), &[0; 1_027], &[513], &CLOSED, 3), refused(1, 0));
-    assert_eq!(go(&CLOSED, &[0; 3], &[1; 513], &CLOSED.repeat(513), 1_027), refused(1, 0));
+    assert_eq!(go(&[], &[0], &[0], &CLOSED, 4), refused(1, 0));
+    assert_eq!(go(&CLOSED, &[0; 4], &[], &[], 1), refused(1, 0));
+    assert_eq!(go(&CLOSED.repeat(513), &[0; 1_540], &[513], &CLOSED, 4), refused(1, 0));
+    assert_eq!(go(&CLOSED, &[0; 4], &[1; 513], &CLOSED.repeat(513), 1_540), refused(1, 0));
 }
 
 #[test]
 fn order() {
     // with sizes that don't add up
-    order_of_tables(|old, state, new| join(old, state, &[1], new, &mut [0; 3]));
+    order_of_tables(|old, state, new| join(old, state, &[1], new, &mut [0; 4]));
     // 1 before 2, 5 before 14, and 14 at 0 before 14 at a cell
     let mut broken = CLOSED;
     broken[0] = 0;
-    assert_eq!(join(&broken, &[0; 3], &[], &broken, &mut [0; 3]), refused(1, 0));
-    assert_eq!(join(&CLOSED, &[0, 0, 1], &[0], &CLOSED, &mut [0; 3]), refused(5, 1));
-    assert_eq!(join(&CLOSED, &[0; 3], &[0, 2], &CLOSED.repeat(2), &mut [0; 5]), refused(14, 0));
-    assert_eq!(join(&CLOSED, &[0; 3], &[0, 1], &CLOSED.repeat(2), &mut [0; 5]), refused(14, 1));
+    assert_eq!(join(&broken, &[0; 4], &[], &broken, &mut [0; 4]), refused(1, 0));
+    assert_eq!(join(&CLOSED, &[0, 0, 1, 0], &[0], &CLOSED, &mut [0; 4]), refused(5, 1));
+    assert_eq!(join(&CLOSED, &[0, 0, 0, 2], &[0], &CLOSED, &mut [0; 4]), refused(5, 1));
+    assert_eq!(join(&CLOSED, &[0; 4], &[0, 2], &CLOSED.repeat(2), &mut [0; 7]), refused(14, 0));
+    assert_eq!(join(&CLOSED, &[0; 4], &[0, 1], &CLOSED.repeat(2), &mut [0; 7]), refused(14, 1));
 }
 
 #[test]
 fn cut_and_joined_again() {
     let Road { olds: cut_table, news: whole_table, .. } = road();
     for count in 0..=10 {
-        let state = [3, 9_999, count, 1, 0, 44, 0];
-        let (mut cut_state, mut again) = ([0; 11], BEFORE);
+        // every combination of modes is among them
+        let [first, second, last] = [count & 1, count >> 1 & 1, count >> 2 & 1];
+        let state = [3, 9_999, count, 1, 0, 44, 0, first, second, last];
+        let (mut cut_state, mut again) = ([99; 16], BEFORE);
         assert_eq!(recut(&whole_table, &state, &[1, 3, 1], &cut_table, &mut cut_state), Ok(()));
         assert_eq!(join(&cut_table, &cut_state, &[1, 3, 1], &whole_table, &mut again), Ok(()));
         assert_eq!(again, state);

@@ -1,6 +1,6 @@
 //! The run in C with the columns in arrays of their own, behind a safe call.
 
-use model::{accept_state, sheet_length, state_length, Refusal, RunAnswer, COLUMNS, MOST_PERIODS};
+use model::{accept_state, demand_length, sheet_length, Refusal, RunAnswer, COLUMNS, MOST_PERIODS};
 
 extern "C" {
     fn yardstick_run(
@@ -16,7 +16,7 @@ extern "C" {
 /// A run with the answers of [`model::run`]; table and state are accepted by the model, the rows by the C code.
 pub fn run(table: &[u32], state: &mut [u32], demand: &[u32], sheet: &mut [u32]) -> RunAnswer {
     let cells = table.len() / COLUMNS;
-    let row = state_length(cells);
+    let row = demand_length(cells);
     let shape =
         demand.len().is_multiple_of(row) && demand.len() / row <= MOST_PERIODS && sheet.len() == sheet_length(cells);
     let answer = match accept_state(table, state) {

@@ -1,30 +1,36 @@
-//! What the tests of more than one file use.
+//! What the tests of more than one file use; none of them uses all of it.
+#![allow(dead_code)]
 
-use model::{Answer, Refusal};
+use model::{Answer, Refusal, COLUMNS};
 
-pub const CLOSED: [u32; 9] = [32_768, 16_384, 2_000, 10_000, 0, 0, 0, 0, 0];
+pub type Row = [u32; COLUMNS];
+
+pub const CLOSED: Row = [32_768, 16_384, 2_000, 10_000, 0, 0, 0, 0, 0, 2_000];
 
 pub fn refused<T>(number: u32, place: u32) -> Answer<T> {
     Err(Refusal { number, place })
 }
 
-pub fn table(rows: &[[u32; 9]]) -> Vec<u32> {
+pub fn table(rows: &[Row]) -> Vec<u32> {
     rows.concat()
 }
 
-/// The closed cell with some columns replaced.
-pub fn row(changes: &[(usize, u32)]) -> [u32; 9] {
+/// The closed cell with some columns replaced. The dropped capacity goes with F, unless it is replaced after it.
+pub fn row(changes: &[(usize, u32)]) -> Row {
     let mut row = CLOSED;
     for &(column, number) in changes {
         row[column] = number;
+        if column == 2 {
+            row[9] = number;
+        }
     }
     row
 }
 
 /// A cell with both ramps, and the three pieces of the re-cut figures.
-pub fn three_pieces() -> ([u32; 9], [[u32; 9]; 3]) {
-    let cell = [10, 20, 30, 10, 4, 50, 60, 5, 70];
-    let pieces = [[11, 21, 31, 3, 4, 51, 60, 0, 0], [1, 1, 1, 3, 0, 0, 0, 0, 0], [1, 1, 1, 4, 0, 0, 0, 5, 70]];
+pub fn three_pieces() -> (Row, [Row; 3]) {
+    let cell = [10, 20, 30, 10, 4, 50, 60, 5, 70, 29];
+    let pieces = [[11, 21, 31, 3, 4, 51, 60, 0, 0, 1], [1, 1, 1, 3, 0, 0, 0, 0, 0, 1], [1, 1, 1, 4, 0, 0, 0, 5, 70, 1]];
     (cell, pieces)
 }
 
@@ -38,7 +44,7 @@ pub fn order_of_tables(answer: impl Fn(&[u32], &[u32], &[u32]) -> Answer) {
     };
     let good = bad(0, 1);
     let (range, share, ramp) = (bad(0, 0), bad(1, 65_536), bad(7, 1));
-    let go = |old: [u32; 9], new: [u32; 9]| answer(&table(&[CLOSED, old]), &[0, 99_999, 0, 0, 0], &new);
+    let go = |old: Row, new: Row| answer(&table(&[CLOSED, old]), &[0, 99_999, 0, 0, 0, 0, 0], &new);
     assert_eq!(go(range, range), refused(2, 2));
     assert_eq!(go(share, range), refused(2, 1));
     assert_eq!(go(share, share), refused(3, 2));
