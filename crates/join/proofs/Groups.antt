@@ -1,12 +1,12 @@
 -- The new state as it is filled, group after group. Assumes nothing.
-use Prim.Native.Nat.{ℕ, _+_, _≤_, _<_}
+use Prim.Native.Nat.{ℕ, _+_, _-_, _≤_, _<_}
 use mathlib.Core.Path.{_≡_, refl, _∙_}
 use mathlib.Core.List.{List}
 use native.Mathlib.Omega.{arith}
 use lib.ListN.{length}
 use Rattle.whole.proofs.Sums.{sum-more}
 use Rattle.layout.specs.Laid.{withEntry}
-use Rattle.layout.specs.Layout.{cells, stateLength, queueAt, stateColumns, stateOf, withCell}
+use Rattle.layout.specs.Layout.{cells, stateLength, queueAt, lastModeAt, stateColumns, stateOf, withCell}
 use Rattle.layout.specs.Corridor.{Corridor, cellsOf, entryQueueOf}
 use Rattle.layout.proofs.Laid.{Laying, laying-none, laying-whole}
 use Rattle.layout.proofs.States.{cell-stored}
@@ -15,7 +15,7 @@ use Rattle.join.specs.Join.{groupVehicles, joinedCell, joinedState}
 use Rattle.join.specs.Private.{Joinable}
 use Rattle.join.proofs.Facts.{JoinFits, joinable}
 
--- the first j new cells have their vehicles and queues, and the old cell of index first comes next
+-- the first j new cells have their vehicles, queues and modes, and the old cell of index first comes next
 pub record AddingUp (old : Corridor) (groups new : List ℕ) (n : ℕ) (list : List ℕ) (first j : ℕ) : Type 0 where
   pub known : JoinFits old groups new
   pub all : n ≡ cells new
@@ -49,10 +49,11 @@ module _ {old : Corridor} {groups new list : List ℕ} {n first j : ℕ} (at : A
       work = rw (at .first-is, size-is) (joinable (at .known) j below)
 
       -- one more, as the loop meets it
-      pub goes-on : {list′ : List ℕ} {many count queue : ℕ} → count ≡ groupVehicles old first size → many ≡ cellsOf old
-          → queue ≡ queueAt many (old .state) first
-          → list′ ≡ withCell n list j (record { count = count; queue = queue }) → AddingUp old groups new n list′ (first + size) (j + 1)
-      goes-on count many queue put =
+      pub goes-on : {list′ : List ℕ} {many count queue mode : ℕ} → count ≡ groupVehicles old first size → many ≡ cellsOf old
+          → queue ≡ queueAt many (old .state) first → mode ≡ lastModeAt many (old .state) (first + (size - 1))
+          → list′ ≡ withCell n list j (record { count = count; queue = queue; mode = mode })
+          → AddingUp old groups new n list′ (first + size) (j + 1)
+      goes-on count many queue mode put =
           record {
             known = at .known;
             all = at .all;
@@ -61,7 +62,7 @@ module _ {old : Corridor} {groups new list : List ℕ} {n first j : ℕ} (at : A
             laid =
                 rw (put, at .all)
                 (cell-stored (cells new) list (joinedCell old groups) (at .laid) below (λ k below other. omega arith)
-                (λ _. rw (count, queue, many, at .first-is, size-is)));
+                (λ _. rw (count, queue, mode, many, at .first-is, size-is)));
           }
 
   -- with Q the state is whole

@@ -11,8 +11,8 @@ use lib.ListN.{length}
 use Rattle.whole.specs.Search.{pick}
 use Rattle.layout.specs.declared.Row.{Row}
 use Rattle.layout.specs.Laid.{withEntry}
-use Rattle.layout.specs.Layout.{MOST, cells, rowAt, stateLength, queueAt, stateColumns, stateOf, withCell}
-use Rattle.layout.specs.Corridor.{Corridor, cellsOf, rowOf, entryQueueOf, countOf, queueOf}
+use Rattle.layout.specs.Layout.{MOST, cells, rowAt, stateLength, queueAt, lastModeAt, stateColumns, stateOf, withCell}
+use Rattle.layout.specs.Corridor.{Corridor, cellsOf, rowOf, entryQueueOf, countOf, queueOf, lastModeOf}
 use Rattle.layout.proofs.Laid.{Laying, laying-none, laying-whole}
 use Rattle.layout.proofs.States.{cell-stored}
 use Rattle.recut_checks.specs.Pieces.{pieceCount}
@@ -25,12 +25,15 @@ use Rattle.recut.specs.Private.{restBefore, restAfter, filled, Cuttable}
 use Rattle.recut.proofs.Shares.{share-at-most, share-by-remainder, none-left-before, last-leaves-none}
 use Rattle.recut.proofs.Facts.{CutFits, cuttable, last-is-whole, next-asks}
 
--- a piece's share by hand, from what is left before it, and its queue
+-- a piece's share by hand, from what is left before it, its queue and its mode
 abbrev pub handShare : Corridor → Piece → ℕ → Share
 handShare old piece jam = byHand (countOf old (piece .cell)) (rowOf old (piece .cell) .jam) jam (restBefore old piece)
 
 abbrev ownQueue : Corridor → Piece → ℕ
 ownQueue old piece = pick (eqb (piece .number) 0) (queueOf old (piece .cell)) 0
+
+abbrev ownMode : Corridor → List ℕ → Piece → ℕ
+ownMode old pieces piece = pick (eqb (piece .number + 1) (pieceCount pieces (piece .cell))) (lastModeOf old (piece .cell)) 0
 
 -- what they are worked out from
 module _ (old : Corridor) (piece : Piece) where
@@ -42,8 +45,13 @@ module _ (old : Corridor) (piece : Piece) where
       → n ≡ cellsOf old → queue ≡ ownQueue old piece
   queue-from queue waits n = queue ∙ rw (waits, n)
 
+  pub mode-from : (pieces : List ℕ) {mode was n : ℕ} → mode ≡ pick (eqb (piece .number + 1) (pieceCount pieces (piece .cell))) was 0
+      → was ≡ lastModeAt n (old .state) (piece .cell) → n ≡ cellsOf old → mode ≡ ownMode old pieces piece
+  mode-from pieces mode was n = mode ∙ rw (was, n)
+
 -- a piece that is shared out by hand from what is left before it is filled as the rule has it
-module _ (old : Corridor) (piece : Piece) (jam : ℕ) {share : Share} (work : Cuttable old piece jam) (is : share ≡ handShare old piece jam) where
+module _ (old : Corridor) (pieces : List ℕ) (piece : Piece) (jam : ℕ) {share : Share} (work : Cuttable old pieces piece jam)
+    (is : share ≡ handShare old piece jam) where
   abbrev n : ℕ
   n = countOf old (piece .cell)
 
@@ -56,10 +64,10 @@ module _ (old : Corridor) (piece : Piece) (jam : ℕ) {share : Share} (work : Cu
   pub share-is-held : share .vehicles ≤ n
   share-is-held = rw share-as-ruled (omega (arith, share-at-most n J (piece .before + jam) (work .some) (work .within)))
 
-  pub fills : {queue : ℕ} → queue ≡ ownQueue old piece
-      → record { cell = record { count = share .vehicles; queue = queue }; rest = share .rest } ≡ filled old piece jam
+  pub fills : {queue mode : ℕ} → queue ≡ ownQueue old piece → mode ≡ ownMode old pieces piece
+      → record { cell = record { count = share .vehicles; queue = queue; mode = mode }; rest = share .rest } ≡ filled old pieces piece jam
   unfolding pieceCell
-  fills queue-is = rw (share-as-ruled, queue-is)
+  fills queue-is mode-is = rw (share-as-ruled, queue-is, mode-is)
 
 -- what a piece leaves is what is left before the next one; the last piece of a cell leaves nothing, and before a first piece there is nothing
 leaves-on : (old : Corridor) (pieces : List ℕ) (piece : Piece) (jam : ℕ) → (pieceCount pieces (piece .cell) ≤ piece .number + 1 → piece .before + jam ≡ rowOf old (piece .cell) .jam)
@@ -78,7 +86,7 @@ leaves-on old pieces piece jam last-is-whole = by (ltb (piece .number + 1) (piec
         (last-leaves-none (countOf old (piece .cell)) (rowOf old (piece .cell) .jam)
         ∙ sym (none-left-before (countOf old (piece .cell + 1)) (rowOf old (piece .cell + 1) .jam)))
 
--- the first j new cells have their vehicles and queues
+-- the first j new cells have their vehicles, queues and modes
 pub record Cutting (old : Corridor) (pieces new : List ℕ) (n : ℕ) (list : List ℕ) (piece : Piece) (rest j : ℕ) : Type 0 where
   pub known : CutFits old pieces new
   pub all : n ≡ cells new
@@ -105,14 +113,15 @@ module _ {old : Corridor} {pieces new list : List ℕ} {piece : Piece} {n rest j
     below = omega (arith, at .all)
 
     -- what the work on a piece asks, as the loop meets it
-    pub work : Cuttable old piece (row .jam)
+    pub work : Cuttable old pieces piece (row .jam)
     work = rw (row-is, at .piece-is) (cuttable old pieces new (at .known) j below)
 
     pub next-asked : (piece .cell < length pieces) × (piece .number < MOST) × (piece .before ≤ 4_000_000)
     next-asked = rw (at .piece-is) (next-asks old pieces new (at .known) j below)
 
     -- one more, as the loop meets it
-    pub goes-on : {list′ : List ℕ} {done : Filled} {piece′ : Piece} → done ≡ filled old piece (row .jam) → list′ ≡ withCell n list j (done .cell) → piece′ ≡ nextPiece pieces piece (row .jam)
+    pub goes-on : {list′ : List ℕ} {done : Filled} {piece′ : Piece} → done ≡ filled old pieces piece (row .jam)
+        → list′ ≡ withCell n list j (done .cell) → piece′ ≡ nextPiece pieces piece (row .jam)
         → Cutting old pieces new n list′ piece′ (done .rest) (j + 1)
     unfolding pieceAt
     goes-on {done = done} done-is put next =

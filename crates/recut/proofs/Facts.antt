@@ -30,14 +30,22 @@ module _ (old : Corridor) (pieces new : List ℕ) (known : CutFits old pieces ne
   pub jams-with : piece .before + rowAt new j .jam ≡ jamBefore new (firstPiece pieces (piece .cell)) (piece .number + 1)
   jams-with = jams-more new (firstPiece pieces (piece .cell)) (piece .number) j (the-piece .at) (the-piece .before-is)
 
-  pub cuttable : Cuttable old (pieceAt pieces new j) (rowAt new j .jam)
+  -- a cell has no more pieces than there are new cells
+  few : piece .number < MOST
+  few =
+      let grows = sum-grows (suc (piece .cell)) (cellsOf old) (pieceCount pieces) (the-piece .cell-is) in
+      omega (arith, the-piece .number-is, known .pieced .sums, grows, known .change .new-cells)
+
+  pub cuttable : Cuttable old pieces (pieceAt pieces new j) (rowAt new j .jam)
   unfolding jamBefore
   cuttable =
       let first = firstPiece pieces (piece .cell) in
       let all = pieceCount pieces (piece .cell) in
       record {
         state-length = known .change .state-length;
+        counts = known .counts;
         inside = the-piece .cell-is;
+        few = few;
         some = known .change .old-fits .rows (piece .cell) (the-piece .cell-is) .jam .least;
         held = known .change .state-fits-it .cells (piece .cell) (the-piece .cell-is) .count;
         within =
@@ -53,7 +61,5 @@ module _ (old : Corridor) (pieces new : List ℕ) (known : CutFits old pieces ne
 
   pub next-asks : (piece .cell < length pieces) × (piece .number < MOST) × (piece .before ≤ 4_000_000)
   next-asks =
-      let grows = sum-grows (suc (piece .cell)) (cellsOf old) (pieceCount pieces) (the-piece .cell-is) in
-      let few = known .change .new-cells in
       let most = known .change .old-fits .rows (piece .cell) (the-piece .cell-is) .jam .most in
-      omega (arith, the-piece .cell-is, the-piece .number-is, known .counts, known .pieced .sums, grows, few, cuttable .within, most)
+      omega (arith, the-piece .cell-is, known .counts, few, cuttable .within, most)

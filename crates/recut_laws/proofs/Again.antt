@@ -12,7 +12,7 @@ use Rattle.refusals.specs.declared.Refusal.the-variants.{Pieces, Groups}
 use Rattle.refusals.specs.Checks.{answer, whenAccepted}
 use Rattle.refusals.proofs.Answers.{accepted-passes}
 use Rattle.layout.specs.Layout.{cells, stateLength}
-use Rattle.layout.specs.Corridor.{Corridor, cellsOf, countOf, queueOf}
+use Rattle.layout.specs.Corridor.{Corridor, cellsOf, countOf, queueOf, lastModeOf}
 use Rattle.accept_tables.specs.Tables.{tableChecks}
 use Rattle.accept_tables.proofs.Accepted.{table-fits}
 use Rattle.accept_rows.proofs.Lengths.{cells-fit}
@@ -23,12 +23,13 @@ use Rattle.recut_checks.proofs.Accepted.{fits}
 use Rattle.recut.specs.declared.Piece.{Piece}
 use Rattle.recut.specs.Pieces.{pieceAt}
 use Rattle.recut.specs.Recut.{newCorridor, recutChecks}
+use Rattle.recut.proofs.Walk.{Last}
 use Rattle.recut.proofs.Facts.{CutFits, the-piece}
 use Rattle.join.specs.Join.{groupVehicles, joinedState, joinChecks, JoinDone}
 use Rattle.join.proofs.Facts.{JoinFits}
 use Rattle.recut_laws.specs.Joins.{KeepsCells}
 use Rattle.recut_laws.proofs.Sums.{place-inside, one-place}
-use Rattle.recut_laws.proofs.Kept.{first-queue, new-entry, new-length, shared, shared-none, shared-more, shared-all, new-state-is-accepted}
+use Rattle.recut_laws.proofs.Kept.{first-queue, last-takes-the-mode, new-entry, new-length, shared, shared-none, shared-more, shared-all, new-state-is-accepted}
 use Rattle.recut_laws.proofs.Holds.{what-fits-is-accepted, is-joined}
 
 -- a table keeps its own cells
@@ -109,20 +110,28 @@ module _ (old : Corridor) (pieces new : List ℕ) (known : CutFits old pieces ne
       let more = rw (← is .0, ← is .1, add-one k) at (shared-more old pieces new known (firstPiece pieces i + k) (inside i k h below)) in
       ap (λ s. s + countOf cut (firstPiece pieces i + k)) (adds-up i h k (omega arith)) ∙ more
 
-  -- all its pieces have its vehicles, and the first one its queue
+  -- all its pieces have its vehicles, the first one its queue and the last one its mode
   module _ (i : ℕ) (h : i < cellsOf old) where
     some : 0 < pieceCount pieces i
     some = known .pieced .each i h .some
 
+    abbrev last : ℕ
+    last = firstPiece pieces i + (pieceCount pieces i - 1)
+
+    last-inside : firstPiece pieces i + (pieceCount pieces i - 1) < cells new
+    last-inside = inside i (pieceCount pieces i - 1) h (omega (arith, some))
+
+    its-last : (i ≡ piece last .cell) × (pieceCount pieces i - 1 ≡ piece last .number)
+    its-last = is-piece i (pieceCount pieces i - 1) h (omega (arith, some))
+
+    is-last : Last pieces (piece last)
+    is-last = rw (← its-last .0, ← its-last .1) (omega (arith, some))
+
     all-its-vehicles : groupVehicles cut (firstPiece pieces i) (pieceCount pieces i) ≡ countOf old i
     all-its-vehicles =
         let count = pieceCount pieces i in
-        let below : count - 1 < count = omega (arith, some) in
-        let last : count - 1 + 1 ≡ count = omega (arith, some) in
-        let is = is-piece i (count - 1) h below in
-        let at = inside i (count - 1) h below in
-        let all = shared-all old pieces new known (firstPiece pieces i + (count - 1)) at (rw (← is .0, ← is .1) last) in
-        adds-up i h count (omega arith) ∙ rw (← is .0, ← is .1, last) at all
+        let all : count - 1 + 1 ≡ count = omega (arith, some) in
+        adds-up i h count (omega arith) ∙ rw (← its-last .0, ← its-last .1, all) at (shared-all old pieces new known last last-inside is-last)
 
     its-queue : queueOf cut (firstPiece pieces i) ≡ queueOf old i
     its-queue =
@@ -130,12 +139,16 @@ module _ (old : Corridor) (pieces new : List ℕ) (known : CutFits old pieces ne
         let at = rw add-zero at (inside i 0 h some) in
         first-queue old pieces new known (firstPiece pieces i) at (sym (is .1)) ∙ ap (queueOf old) (sym (is .0))
 
+    its-mode : lastModeOf cut last ≡ lastModeOf old i
+    its-mode = last-takes-the-mode old pieces new known last last-inside is-last ∙ ap (lastModeOf old) (sym (its-last .0))
+
   gives-back : (table : List ℕ) → cells table ≡ cellsOf old → joinedState (newCorridor old pieces new) pieces table ≡ old .state
   gives-back table many =
       sym
       (is-joined cut pieces table (old .state) (rw many (known .change .state-length)) (sym (new-entry old pieces new known))
       (λ i h. sym (all-its-vehicles i (rw many at h)))
-      (λ i h. rw many (sym (its-queue i (rw many at h)))))
+      (λ i h. rw many (sym (its-queue i (rw many at h))))
+      (λ i h. rw many (sym (its-mode i (rw many at h)))))
 
 -- the cut state, joined by the same pieces, is accepted under any accepted table that keeps the cells
 pub cut-then-join-is-accepted : (old : Corridor) (pieces new list table back : List ℕ)

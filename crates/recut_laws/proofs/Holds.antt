@@ -11,7 +11,7 @@ use Rattle.refusals.specs.declared.Refusal.{Refusal}
 use Rattle.refusals.specs.declared.Answer.the-variants.{Accepted}
 use Rattle.refusals.specs.Checks.{answer}
 use Rattle.refusals.proofs.Answers.{accepted-passes, passes-accepted, accepted-both, both-accepted, lengths-passed}
-use Rattle.layout.specs.Layout.{cells, rowAt, stateLength, entryQueue, countAt, queueAt, stateColumns, stateOf}
+use Rattle.layout.specs.Layout.{cells, rowAt, stateLength, entryQueue, countAt, queueAt, lastModeAt, stateColumns, stateOf}
 use Rattle.layout.specs.Corridor.{Corridor, entryQueueOf}
 use Rattle.layout.proofs.Laid.{laying-ends}
 use Rattle.accept_tables.specs.Tables.{tableNumbers, rowsInRange, roomsShared, rampsOnce, bothTables}
@@ -67,14 +67,15 @@ what-fits-is-accepted give old pieces new list whole parts known len =
     ∙ both-accepted (bothTables (old .table) new) (stateInRange old ∷ []) tables (state .1))
     (passes-accepted (piecesNumber give whole pieces parts) Accepted (pieced-holds whole pieces parts (known .pieced)) refl)
 
--- a list of the length with that entry queue, those counts and those queues is the joined state
+-- a list of the length with that entry queue, those counts, those queues and those modes is the joined state
 module _ (old : Corridor) (groups new list : List ℕ) where
   pub is-joined : length list ≡ stateLength (cells new) → entryQueue list ≡ entryQueueOf old
       → ((j : ℕ) → j < cells new → countAt list j ≡ joinedCell old groups j .count)
       → ((j : ℕ) → j < cells new → queueAt (cells new) list j ≡ joinedCell old groups j .queue)
+      → ((j : ℕ) → j < cells new → lastModeAt (cells new) list j ≡ joinedCell old groups j .mode)
       → list ≡ joinedState old groups new
   unfolding stateOf
-  is-joined len entry count queue =
+  is-joined len entry count queue mode =
       laying-ends (cells new) list (stateColumns (joinedCell old groups)) {Meant = λ _. Unit}
-      (record { len = omega (arith, len); filled = (λ j h _. count j h, (λ j h _. queue j h, tt)) })
+      (record { len = omega (arith, len); filled = (λ j h _. count j h, (λ j h _. queue j h, (λ j h _. mode j h, tt))) })
       (λ _ _. tt) entry

@@ -1,5 +1,5 @@
 -- What a join keeps. Assumes nothing.
-use Prim.Native.Nat.{ℕ, zero, suc, _+_, _≤_, _<_}
+use Prim.Native.Nat.{ℕ, zero, suc, _+_, _-_, _≤_, _<_}
 use mathlib.Core.Path.{_≡_, refl, sym, ap, ap₂, _∙_}
 use mathlib.Core.List.{List, [], _∷_}
 use native.Mathlib.Omega.{arith}
@@ -9,13 +9,13 @@ use lib.ListN.{length}
 use Rattle.whole.specs.Sums.{sum}
 use Rattle.whole.specs.Search.{pick}
 use Rattle.whole.proofs.Search.{Passes}
-use Rattle.whole.proofs.Sums.{sum-grows, sum-more}
+use Rattle.whole.proofs.Sums.{sum-more}
 use Rattle.refusals.specs.declared.Answer.the-variants.{Accepted}
 use Rattle.refusals.specs.Checks.{answer}
 use Rattle.refusals.proofs.Answers.{both-accepted, passes-accepted}
 use Rattle.layout.specs.Layout.{cells, rowAt, stateLength}
-use Rattle.layout.specs.Corridor.{Corridor, cellsOf, rowOf, entryQueueOf, countOf, queueOf, cellOf}
-use Rattle.layout.proofs.Readers.{state-length, state-entry, state-count, state-queue}
+use Rattle.layout.specs.Corridor.{Corridor, cellsOf, rowOf, entryQueueOf, countOf, queueOf, lastModeOf, cellOf}
+use Rattle.layout.proofs.Readers.{state-length, state-entry, state-count, state-queue, state-mode}
 use Rattle.accept_ranges.specs.Ranges.{withRamp, queueLimit}
 use Rattle.accept_ranges.proofs.Ranges.{fits-cell}
 use Rattle.accept_tables.specs.Tables.{tableNumbers}
@@ -26,7 +26,7 @@ use Rattle.recut.specs.declared.Piece.{Piece}
 use Rattle.recut.specs.Pieces.{pieceAt}
 use Rattle.recut.proofs.Walk.{On, Last, piece-of}
 use Rattle.join.specs.Join.{groupVehicles, joinedCell, joinedState, joinedCorridor}
-use Rattle.join.proofs.Facts.{JoinFits, group-fits}
+use Rattle.join.proofs.Facts.{JoinFits, group-inside, group-fits}
 use Rattle.recut_laws.proofs.Along.{pick-none, sums-carry, first-carries}
 use Rattle.recut_laws.proofs.Ramps.{first-has-on-ramp, other-has-no-on-ramp}
 
@@ -43,6 +43,10 @@ module _ (old : Corridor) (groups new : List ℕ) (known : JoinFits old groups n
 
   pub joined-queue : (j : ℕ) → j < cells new → queueOf (joinedCorridor old groups new) j ≡ queueOf old (firstPiece groups j)
   joined-queue = state-queue (cells new) (entryQueueOf old) (joinedCell old groups)
+
+  pub joined-mode : (j : ℕ) → j < cells new
+      → lastModeOf (joinedCorridor old groups new) j ≡ lastModeOf old (firstPiece groups j + (pieceCount groups j - 1))
+  joined-mode = state-mode (cells new) (entryQueueOf old) (joinedCell old groups)
 
   pub joined-entry : entryQueueOf (joinedCorridor old groups new) ≡ entryQueueOf old
   joined-entry = state-entry (cells new) (entryQueueOf old) (joinedCell old groups)
@@ -105,15 +109,22 @@ module _ (old : Corridor) (groups new : List ℕ) (known : JoinFits old groups n
   queue-stays-within : (j : ℕ) → j < cells new → queueOf joined j ≤ withRamp (rowAt new j .on) queueLimit
   queue-stays-within j h =
       let cell = known .pieced .each j h in
-      let inside : firstPiece groups j < cellsOf old = omega (arith, cell .some, known .pieced .sums, sum-grows (suc j) (cells new) (pieceCount groups) h) in
+      let inside : firstPiece groups j < cellsOf old = omega (arith, cell .some, group-inside known j h) in
       rw (joined-queue j h, ← cell .on) (known .change .state-fits-it .cells (firstPiece groups j) inside .queue)
+
+  -- the last of a group has the mode
+  mode-stays-within : (j : ℕ) → j < cells new → lastModeOf joined j ≤ 1
+  mode-stays-within j h =
+      let last = firstPiece groups j + (pieceCount groups j - 1) in
+      let inside : last < cellsOf old = omega (arith, known .pieced .each j h .some, group-inside known j h) in
+      rw (joined-mode j h) (known .change .state-fits-it .cells last inside .mode)
 
   stays-in-range : Passes (cells new + 1) (stateInRange joined .test)
   stays-in-range zero h = le-leb (entryQueueOf joined) queueLimit (omega (arith, joined-entry, known .change .state-fits-it .entry))
   stays-in-range (suc j) h =
       let below : j < cells new = omega arith in
       fits-cell (rowAt new j) (cellOf joined j)
-      (record { count = rw (joined-count j below) (group-fits known j below); queue = queue-stays-within j below })
+      (record { count = rw (joined-count j below) (group-fits known j below); queue = queue-stays-within j below; mode = mode-stays-within j below })
 
   -- the new state is accepted under the new table
   pub joined-state-is-accepted : answer (stateNumbers (joinedCorridor old groups new)) ≡ Accepted

@@ -1,6 +1,7 @@
 -- What a re-cut keeps. Assumes nothing.
 use Prim.Native.Nat.{ℕ, zero, suc, _+_, _*_, _/_, _≤_, _<_, zero-le}
 use mathlib.Core.Path.{_≡_, refl, ap, ap₂, _∙_}
+use mathlib.Core.Logic.{_⊎_, inl, inr}
 use mathlib.Core.List.{List, [], _∷_}
 use native.Mathlib.Omega.{arith}
 use native.Mathlib.Decide.{ℕ-discrete}
@@ -14,18 +15,18 @@ use Rattle.refusals.specs.declared.Answer.the-variants.{Accepted}
 use Rattle.refusals.specs.Checks.{answer}
 use Rattle.refusals.proofs.Answers.{both-accepted, passes-accepted}
 use Rattle.layout.specs.Layout.{cells, rowAt, stateLength}
-use Rattle.layout.specs.Corridor.{Corridor, cellsOf, rowOf, entryQueueOf, countOf, queueOf, cellOf}
-use Rattle.layout.proofs.Readers.{state-length, state-entry, state-count, state-queue}
+use Rattle.layout.specs.Corridor.{Corridor, cellsOf, rowOf, entryQueueOf, countOf, queueOf, lastModeOf, cellOf}
+use Rattle.layout.proofs.Readers.{state-length, state-entry, state-count, state-queue, state-mode}
 use Rattle.accept_ranges.specs.Ranges.{withRamp, queueLimit}
 use Rattle.accept_ranges.proofs.Ranges.{fits-cell}
 use Rattle.accept_tables.specs.Tables.{tableNumbers}
 use Rattle.accept_rows.specs.Acceptance.{stateInRange, stateNumbers}
 use Rattle.accept_rows.specs.Vehicles.{vehicles, atOnRamp}
-use Rattle.recut_checks.specs.Pieces.{firstPiece, jamBefore}
+use Rattle.recut_checks.specs.Pieces.{pieceCount, firstPiece, jamBefore}
 use Rattle.recut.specs.declared.Piece.{Piece}
 use Rattle.recut.specs.Pieces.{pieceAt}
 use Rattle.recut.specs.Recut.{pieceVehicles, pieceCell, newCell, newState, newCorridor}
-use Rattle.recut.proofs.Walk.{On, Last}
+use Rattle.recut.proofs.Walk.{On, Followed, Last, followed-or-last}
 use Rattle.recut.proofs.Shares.{share-grows, share-of-none}
 use Rattle.recut.proofs.Facts.{CutFits, the-piece, jams-with, cuttable}
 use Rattle.recut_laws.proofs.Shares.{share-of-all, piece-fits}
@@ -57,6 +58,17 @@ module _ (old : Corridor) (pieces new : List ℕ) (known : CutFits old pieces ne
 
     other-queue : (piece j .number ≡ 0 → ⊥) → queueOf cut j ≡ 0
     other-queue other = new-queue ∙ rw (ne-eqb (piece j .number) 0 other)
+
+    new-mode : lastModeOf cut j ≡ pick (eqb (piece j .number + 1) (pieceCount pieces (piece j .cell))) (lastModeOf old (piece j .cell)) 0
+    unfolding pieceCell
+    new-mode = state-mode (cells new) (entryQueueOf old) (newCell old pieces new) j h
+
+    -- the last piece has the old cell's mode, and another one 0
+    pub last-takes-the-mode : Last pieces (pieceAt pieces new j) → lastModeOf (newCorridor old pieces new) j ≡ lastModeOf old (pieceAt pieces new j .cell)
+    last-takes-the-mode e = new-mode ∙ rw (eq-eqb _ _ e)
+
+    pub other-has-mode-0 : Followed pieces (pieceAt pieces new j) → lastModeOf (newCorridor old pieces new) j ≡ 0
+    other-has-mode-0 more = new-mode ∙ rw (ne-eqb (piece j .number + 1) (pieceCount pieces (piece j .cell)) (λ e. omega arith))
 
   pub new-entry : entryQueueOf cut ≡ entryQueueOf old
   new-entry = state-entry (cells new) (entryQueueOf old) (newCell old pieces new)
@@ -117,12 +129,19 @@ module _ (old : Corridor) (pieces new : List ℕ) (known : CutFits old pieces ne
       by (yes e) = rw (first-queue j h e, first-has-on-ramp (old .table) pieces new (known .pieced) j h e .0) (known .change .state-fits-it .cells (piece j .cell) (on j h .cell-is) .queue)
       by (no other) = rw (other-queue j h other) zero-le
 
+  mode-stays-within : (j : ℕ) → j < cells new → lastModeOf cut j ≤ 1
+  mode-stays-within j h = by (followed-or-last (on j h))
+    where
+      by : Followed pieces (piece j) ⊎ Last pieces (piece j) → lastModeOf cut j ≤ 1
+      by (inl more) = rw (other-has-mode-0 j h more) zero-le
+      by (inr e) = rw (last-takes-the-mode j h e) (known .change .state-fits-it .cells (piece j .cell) (on j h .cell-is) .mode)
+
   stays-in-range : Passes (cells new + 1) (stateInRange cut .test)
   stays-in-range zero h = le-leb (entryQueueOf cut) queueLimit (omega (arith, new-entry, known .change .state-fits-it .entry))
   stays-in-range (suc j) h =
       let below : j < cells new = omega arith in
       fits-cell (rowAt new j) (cellOf cut j)
-      (record { count = piece-holds-at-most-its-jam j below; queue = queue-stays-within j below })
+      (record { count = piece-holds-at-most-its-jam j below; queue = queue-stays-within j below; mode = mode-stays-within j below })
 
   -- the new state is accepted under the new table
   pub new-state-is-accepted : answer (stateNumbers (newCorridor old pieces new)) ≡ Accepted

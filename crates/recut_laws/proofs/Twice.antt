@@ -17,7 +17,7 @@ use Rattle.refusals.specs.declared.Answer.the-variants.{Accepted}
 use Rattle.refusals.specs.declared.Refusal.the-variants.{Groups}
 use Rattle.refusals.specs.Checks.{answer}
 use Rattle.layout.specs.Layout.{cells, rowAt, stateLength}
-use Rattle.layout.specs.Corridor.{Corridor, countOf, queueOf}
+use Rattle.layout.specs.Corridor.{Corridor, countOf, queueOf, lastModeOf}
 use Rattle.recut_checks.specs.Pieces.{pieceCount, firstPiece, jamBefore}
 use Rattle.recut_checks.proofs.Pieced.{CellPieces, Pieced}
 use Rattle.recut_checks.proofs.Accepted.{fits}
@@ -29,7 +29,7 @@ use Rattle.join.proofs.Facts.{JoinFits}
 use Rattle.recut_laws.specs.Joins.{addedUp}
 use Rattle.recut_laws.proofs.Sums.{sum-append, sum-in-groups, place-inside, one-place}
 use Rattle.recut_laws.proofs.Ramps.{first-has-on-ramp, other-has-no-on-ramp, last-has-off-ramp, other-has-no-off-ramp}
-use Rattle.recut_laws.proofs.Joined.{joined-count, joined-queue, joined-entry, joined-length}
+use Rattle.recut_laws.proofs.Joined.{joined-count, joined-queue, joined-mode, joined-entry, joined-length}
 use Rattle.recut_laws.proofs.Holds.{what-fits-is-accepted, is-joined}
 
 -- parts that are the pieces of a middle table's cells, and these the pieces of the whole ones
@@ -224,7 +224,7 @@ module _ (old : Corridor) (first middle second new : List ℕ) (known : JoinFits
         pieced = pieced-twice (known′ .counts) (known′ .pieced) (known .pieced);
       }
 
-  -- each new cell has the vehicles and the queue of its groups
+  -- each new cell has the vehicles, the queue and the mode of its groups
   module _ (j : ℕ) (h : j < cells new) where
     in-middle : (k : ℕ) → k < pieceCount second j → firstPiece second j + k < cells middle
     in-middle k below = place-inside (pieceCount second) (known′ .pieced .sums) h below
@@ -242,12 +242,19 @@ module _ (old : Corridor) (first middle second new : List ℕ) (known : JoinFits
         ∙ joined-queue old first middle known (firstPiece second j) start
         ∙ ap (queueOf old) (sym (first-is (known′ .counts) (known′ .pieced) (known .pieced) j (omega arith)))
 
+    same-mode : lastModeOf (joinedCorridor between second new) j ≡ lastModeOf old (firstPiece sizes j + (pieceCount sizes j - 1))
+    same-mode =
+        let last = pieceCount second j - 1 in
+        joined-mode between second new known′ j h
+        ∙ joined-mode old first middle known (firstPiece second j + last) (in-middle last (omega (arith, known′ .pieced .each j h .some)))
+        ∙ ap (lastModeOf old) (sym (last-is (known′ .counts) (known′ .pieced) (known .pieced) j h))
+
   same-state : joinedState between second new ≡ joinedState old sizes new
   same-state =
       is-joined old sizes new (joinedState between second new)
       (joined-length between second new known′)
       (joined-entry between second new known′ ∙ joined-entry old first middle known)
-      same-count same-queue
+      same-count same-queue same-mode
 
 -- two joins in turn are accepted as one, by the sizes added up, and leave the same state
 pub two-joins-are-one : (old : Corridor) (first middle list₁ second new list₂ list : List ℕ)

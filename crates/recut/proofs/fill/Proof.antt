@@ -3,12 +3,12 @@ use mathlib.Core.Path.{_≡_}
 use native.Mathlib.Omega.{arith}
 use borrow.Author.Needs.{needs}
 use Rattle.layout.specs.Corridor.{Corridor, corridorOf}
-use Rattle.recut.proofs.Cutting.{handShare, shared-from, queue-from, share-is-held, fills}
+use Rattle.recut.proofs.Cutting.{handShare, shared-from, queue-from, mode-from, share-is-held, fills}
 use Rattle.recut.proofs.fill.Statement.{statement}
 use Rattle.recut.proofs.fill.Tie as tie
 
 abbrev begin : tie.After-share-by-hand → tie.Start
-begin c = c .before .before .before .before .before
+begin c = c .before .before .before .before .before .before .before
 
 abbrev corridor : tie.After-share-by-hand → Corridor
 corridor c = corridorOf (begin c .args .old .now) (begin c .args .state .now)
@@ -20,19 +20,26 @@ told c =
     let given = begin c .args in
     shared-from (corridor c) (given .piece) (given .jam) (c .share-by-hand .ensures) (c .before .count-at .ensures) (c .before .before .row-at .ensures) (begin c .pre .1)
 
-cast-t11 : tie.Need-cast-t11
-cast-t11 c =
-    let shared = c .before .before .before .before in
+cast-piece-mode : tie.Need-cast-piece-mode
+cast-piece-mode c = omega (arith, c .shared-slice-known4 .given (begin (c .before .before .before) .args .piece .cell))
+
+cast-t14 : tie.Need-cast-t14
+cast-t14 c =
+    let shared = c .before .before .before .before .before .before in
     let start = begin shared in
-    omega (arith, share-is-held (corridor shared) (start .args .piece) (start .args .jam) (start .pre .0) (told shared))
+    omega (arith, share-is-held (corridor shared) (start .args .pieces .now) (start .args .piece) (start .args .jam) (start .pre .0) (told shared))
 
 returns : tie.Need-returns
 returns c =
-    let queued = c .before in
-    let shared = queued .before .before .before in
+    let moded = c .before in
+    let queued = moded .before .before .before in
+    let shared = queued .before .before in
     let start = begin shared in
-    let queue = queue-from (corridor shared) (start .args .piece) (queued .piece-queue .ensures) (queued .before .queue-at .ensures) (queued .before .before .cells .ensures) in
-    fills (corridor shared) (start .args .piece) (start .args .jam) (start .pre .0) (told shared) queue
+    let given = start .args in
+    let many = shared .before .before .before .cells .ensures in
+    let queue = queue-from (corridor shared) (given .piece) (queued .piece-queue .ensures) (queued .before .queue-at .ensures) many in
+    let mode = mode-from (corridor shared) (given .piece) (given .pieces .now) (moded .piece-mode .ensures) (moded .before .last-mode-at .ensures) many in
+    fills (corridor shared) (given .pieces .now) (given .piece) (given .jam) (start .pre .0) (told shared) queue mode
 
 pub fill-spec : {M : Type 1} → statement M
 fill-spec =
@@ -44,5 +51,10 @@ fill-spec =
     (λ c κs. search needs)
     (λ c κs. search needs)
     (λ c κs. search needs)
-    cast-t11
+    (λ c. search needs)
+    (λ c. search needs)
+    cast-piece-mode
+    (λ c κs. search needs)
+    (λ c κs. search needs)
+    cast-t14
     returns)
