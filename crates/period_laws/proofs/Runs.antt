@@ -1,6 +1,6 @@
 -- Where every dropped capacity is F, a run does not depend on the modes it starts from. Assumes nothing.
 use Prim.Native.Nat.{ℕ, zero, suc, _+_, _<_}
-use mathlib.Core.Path.{_≡_, ap, sym, _∙_}
+use mathlib.Core.Path.{_≡_, refl, ap, sym, _∙_}
 use mathlib.Core.Bool.{Bool}
 use mathlib.Core.List.{List}
 use native.Mathlib.Omega.{arith}
@@ -8,13 +8,14 @@ use Rattle.whole.specs.Search.{firstFailing}
 use Rattle.whole.proofs.Search.{is-first, first-is}
 use Rattle.refusals.specs.Checks.{answer, orLater}
 use Rattle.layout.specs.Layout.{cells}
-use Rattle.layout.specs.Corridor.{Corridor, corridorOf}
+use Rattle.layout.specs.Corridor.{Corridor, corridorOf, cellsOf}
 use Rattle.accept_rows.specs.Acceptance.{queuesHold, demandNumbers}
 use Rattle.period.specs.Sharing.{Sharing}
 use Rattle.period.specs.Period.{sheetOf, corridorAfter}
 use Rattle.period_run.specs.Run.{rows, demandRow, isAccepted, corridorAfterPeriods, sheetAfterPeriods, rowAnswer, completed}
-use Rattle.period_laws.specs.Undropped.{Undropped, SameButModes}
-use Rattle.period_laws.proofs.Undropped.{same-sheet-of, same-state-after}
+use Rattle.period_run.proofs.Rows.{table-stays}
+use Rattle.period_laws.specs.Undropped.{Undropped, SameButModes, withoutModes, afterWithoutDrop}
+use Rattle.period_laws.proofs.Undropped.{same-sheet-of, same-state-after, modes-do-not-matter, after-without-modes}
 
 -- tests that agree below n fail first at one index
 same-first : (n : ℕ) (test other : ℕ → Bool) → ((k : ℕ) → k < n → test k ≡ other k) → firstFailing n test ≡ firstFailing n other
@@ -69,3 +70,24 @@ module _ (way : Sharing) (table : List ℕ) (one other : List ℕ) (undropped : 
     same-completed =
         same-first (rows (cells table) demand) (λ k. isAccepted (rowAnswer way c demand k)) (λ k. isAccepted (rowAnswer way d demand k))
         (λ k h. ap isAccepted (same-row-answer k))
+
+-- where every dropped capacity is F, a run is one of the rule without a drop: its corridor after each period, and the sheet of each
+module _ (way : Sharing) (c : Corridor) (demand : List ℕ) (undropped : Undropped (c .table)) where
+  still-undropped : (k : ℕ) → Undropped (corridorAfterPeriods way c demand k .table)
+  still-undropped k = rw (table-stays way c demand k) undropped
+
+  pub run-without-drop : (k : ℕ) → corridorAfterPeriods way c demand k ≡ afterWithoutDrop way c demand k
+  unfolding corridorAfterPeriods afterWithoutDrop
+  run-without-drop zero = refl
+  run-without-drop (suc k) =
+      let row = demandRow (cellsOf c) demand k in
+      after-without-modes way (corridorAfterPeriods way c demand k) row (still-undropped k)
+      ∙ ap (λ now. corridorAfter way (withoutModes now) row) (run-without-drop k)
+
+  pub sheets-without-drop : (sheet : List ℕ) (k : ℕ)
+      → sheetAfterPeriods way c demand sheet (suc k) ≡ sheetOf way (withoutModes (afterWithoutDrop way c demand k)) (demandRow (cellsOf c) demand k)
+  unfolding sheetAfterPeriods
+  sheets-without-drop sheet k =
+      let row = demandRow (cellsOf c) demand k in
+      modes-do-not-matter way (corridorAfterPeriods way c demand k) row (still-undropped k) .0
+      ∙ ap (λ now. sheetOf way (withoutModes now) row) (run-without-drop k)

@@ -13,7 +13,7 @@ use Rattle.layout.proofs.Readers.{state-entry, state-count, state-queue, state-
 use Rattle.period.specs.Cell.{modeOf}
 use Rattle.period.specs.Sharing.{Sharing}
 use Rattle.period.specs.Updated.{updated}
-use Rattle.period.specs.Period.{capacityNow, sentAt, offerAt, rampOfferAt, nodeAt, flowAt, offFlowAt, modeAt, sheetOf, stateAfter}
+use Rattle.period.specs.Period.{capacityNow, sentAt, offerAt, rampOfferAt, nodeAt, flowAt, offFlowAt, modeAt, sheetOf, stateAfter, corridorAfter}
 use Rattle.period.proofs.Nodes.{flow-in-is, last-flow-is}
 use Rattle.period_laws.specs.Undropped.{Undropped, cellWithoutMode, withoutModes, SameButModes}
 use Rattle.period_laws.proofs.Lists.{same-state, same-sheet}
@@ -114,3 +114,8 @@ modes-do-not-matter way c demand undropped =
     let kept = without-modes-keeps c in
     let plain = withoutModes c .state in
     (same-sheet-of way (c .table) (c .state) plain demand undropped kept, same-state-after way (c .table) (c .state) plain demand undropped kept)
+
+pub after-without-modes : (way : Sharing) (c : Corridor) (demand : List ℕ) → Undropped (c .table)
+    → corridorAfter way c demand ≡ corridorAfter way (withoutModes c) demand
+unfolding withoutModes
+after-without-modes way c demand undropped = ap (corridorOf (c .table)) (modes-do-not-matter way c demand undropped .1)
