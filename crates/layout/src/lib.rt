@@ -9,7 +9,7 @@ ghost use Rattle.layout.specs.Layout.{WIDTH, Listed, MOST, cells, table_length, 
 pub mod sheet;
 
 // One row of a cell table, in the rules' order of columns.
-#[derive(Drop)]
+#[derive(Clone, Copy)]
 pub struct Row {
     pub v: u32,
     pub w: u32,
@@ -24,7 +24,7 @@ pub struct Row {
 }
 
 // What a state holds of one cell: the count n, the on-ramp queue q and the mode of the period before.
-#[derive(Drop)]
+#[derive(Clone, Copy)]
 pub struct Cell {
     pub count: u32,
     pub queue: u32,
@@ -32,7 +32,7 @@ pub struct Cell {
 }
 
 // What a demand row brings to one cell: the on-ramp demand d and the off-ramp demand o.
-#[derive(Drop)]
+#[derive(Clone, Copy)]
 pub struct Demands {
     pub on: u32,
     pub off: u32,

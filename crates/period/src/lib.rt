@@ -18,7 +18,7 @@ use layout::sheet::sheet_length;
 use refusals::{Answer, Refusal};
 
 // What passes at a node: on the mainline and from the on-ramp, and whether the room there leaves the mainline free.
-#[derive(Drop)]
+#[derive(Clone, Copy)]
 pub struct Passed {
     pub main: u32,
     pub ramp: u32,

@@ -14,7 +14,7 @@ use layout::{cells, demand_length, demand_space};
 use refusals::{Answer, Refusal};
 
 // The periods that a run completed, and its answer.
-#[derive(Drop)]
+#[derive(Clone, Copy)]
 pub struct Ran {
     pub periods: usize,
     pub answer: Answer,

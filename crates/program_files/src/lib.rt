@@ -15,7 +15,7 @@ use refusals::{Answer, Refusal};
 use text_scans::{Scan, Step};
 
 // How far the records of a file are read.
-#[derive(Drop)]
+#[derive(Clone, Copy)]
 pub enum Reading {
     // So many records are complete, the next number goes to this index of the list, and the reading stands here.
     On {
@@ -28,7 +28,7 @@ pub enum Reading {
 }
 
 // A file that is read to its end.
-#[derive(Drop)]
+#[derive(Clone, Copy)]
 pub enum File {
     // So many records.
     Holds(usize),
@@ -39,7 +39,7 @@ pub enum File {
 }
 
 // A refusal's line.
-#[derive(Drop)]
+#[derive(Clone, Copy)]
 pub struct Stop {
     pub period: usize,
     pub place: usize,
@@ -48,7 +48,7 @@ pub struct Stop {
 }
 
 // What a file comes to: the program goes on with so many records, or ends.
-#[derive(Drop)]
+#[derive(Clone, Copy)]
 pub enum Found {
     Go(usize),
     Halt(Stop),

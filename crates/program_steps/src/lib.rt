@@ -11,7 +11,7 @@ use refusals::Refusal;
 use text_scans::Scan;
 
 // What reading on in the demand comes to.
-#[derive(Drop)]
+#[derive(Clone, Copy)]
 pub enum Turn {
     // The chunk is used up: the next one goes on from here, and nothing is written after this position.
     Part { scan: Scan, at: usize },
@@ -22,7 +22,7 @@ pub enum Turn {
 }
 
 // What following the demand comes to. The lines that it writes stand at the start of the output.
-#[derive(Drop)]
+#[derive(Clone, Copy)]
 pub enum Run {
     // So many bytes of the chunk are read, period k is being tried, the reading stands here, and so many bytes are written. Where bytes of the
     // chunk are left, the output has no room for another period's lines.

@@ -15,7 +15,7 @@ use recut_checks::Change;
 use refusals::Answer;
 
 // A piece of an old cell: its cell, its number there, and the sum of J before it.
-#[derive(Drop)]
+#[derive(Clone, Copy)]
 pub struct Piece {
     pub cell: usize,
     pub number: usize,
@@ -23,14 +23,14 @@ pub struct Piece {
 }
 
 // The share of a piece, worked out by hand: its vehicles, and the remainder that it leaves to the next piece.
-#[derive(Drop)]
+#[derive(Clone, Copy)]
 pub struct Share {
     pub vehicles: u64,
     pub rest: u32,
 }
 
 // A piece as it is filled: the new cell, and the remainder that it leaves.
-#[derive(Drop)]
+#[derive(Clone, Copy)]
 struct Filled {
     cell: Cell,
     rest: u32,

@@ -14,7 +14,7 @@ use layout::{cells, state_length};
 use refusals::{Answer, Refusal};
 
 // How the cells of a table change: they are cut into pieces, or they are pieces and are joined.
-#[derive(Drop)]
+#[derive(Clone, Copy)]
 pub enum Change {
     Cut,
     Join,

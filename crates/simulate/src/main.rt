@@ -17,6 +17,9 @@ use layout::{
 use program_files::{File, Found, Reading, Stop};
 use program_steps::{Run, demand, lines};
 use refusals::Refusal;
+use std::fs::File as OpenFile;
+use std::io::{Error, Read};
+use std::rt::Files;
 use text_digits::Written;
 use text_scans::Scan;
 
@@ -50,66 +53,91 @@ fn out_space() -> [u8; 131072]
     [0; 131072]
 }
 
+// Says on standard error what failed, and the system's reason. Where that can't be said either, there is nobody left to tell.
+fn fail(rt: &(impl Eprint + AllocGlobal), what: &str, error: Error) {
+    let Ok(text) = format!(in rt.alloc(); "{error}") else {
+        return;
+    };
+    let reason = match text.as_str().split_once(" (os error ") {
+        Some((reason, _)) => reason,
+        None => text.as_str(),
+    };
+    let _ = eprintln!(rt; "{what}: {reason}");
+}
+
 // Passes the start of the output on. Where it cannot be written, that is said on standard error.
-fn pass_on(out: &[u8], at: usize) -> bool {
+fn pass_on(rt: &(impl Print + Eprint + AllocGlobal), out: &[u8], at: usize) -> bool {
     if at <= out.len() {
-        let is_written = io::write_all(1, &out[..at]);
-        if !is_written {
-            os::fail(b"standard output");
-        }
-        return is_written;
+        return match rt.write_all(&out[..at]) {
+            Ok(()) => true,
+            Err(error) => {
+                fail(rt, "standard output", error);
+                false
+            }
+        };
     }
     false
 }
 
 // Passes the last lines on. The demand is over also where they cannot be written.
-fn pass_last(out: &[u8], at: usize) -> Next
+fn pass_last(rt: &(impl Print + Eprint + AllocGlobal), out: &[u8], at: usize) -> Next
     ensures { result ≡ Next.Over }
 {
-    pass_on(out, at);
+    pass_on(rt, out, at);
     Next::Over
 }
 
 // Passes a line on.
-fn pass_line(line: Written, out: &[u8]) -> bool {
+fn pass_line(rt: &(impl Print + Eprint + AllocGlobal), line: Written, out: &[u8]) -> bool {
     match line {
-        Written::To(end) => pass_on(out, end),
+        Written::To(end) => pass_on(rt, out, end),
         Written::Refused(_) => false,
     }
 }
 
 // Ends the program with a refusal's line.
-fn halt(stop: Stop, out: &mut [u8]) {
+fn halt(rt: &(impl Print + Eprint + AllocGlobal), stop: Stop, out: &mut [u8]) {
     let line = lines::stop_line(stop, out);
-    pass_line(line, out);
+    pass_line(rt, line, out);
 }
 
 // One read of a file of records into a list.
-fn read_some(fd: i32, name: &[u8], fields: usize, reading: Reading, list: &mut [u32]) -> Got
+fn read_some(
+    rt: &(impl Eprint + AllocGlobal),
+    file: &mut impl Read,
+    name: &str,
+    fields: usize,
+    reading: Reading,
+    list: &mut [u32],
+) -> Got
     ensures { SomeRead result fields reading list.old list.new }
 {
-    let mut buffer = io::large_buffer();
-    let got = libc::read(fd, &mut buffer);
-    if got < 0 {
-        os::fail(name);
-        return Got::Lost;
+    let mut buffer = [0; 65_536];
+    match file.read(&mut buffer) {
+        Ok(0) => Got::End,
+        Ok(n) => Got::More(program_files::read_on(&buffer[..n], fields, reading, list)),
+        Err(error) => {
+            fail(rt, name, error);
+            Got::Lost
+        }
     }
-    if got == 0 {
-        return Got::End;
-    }
-    let n = io::count(got, &buffer);
-    Got::More(program_files::read_on(&buffer[..n], fields, reading, list))
 }
 
 // Reads an open file of records to its end. A loop must end, so it counts its reads down from a number that no file uses up.
-fn read_all(fd: i32, name: &[u8], fields: usize, list: &mut [u32]) -> File
+fn read_all(
+    rt: &(impl Eprint + AllocGlobal),
+    file: &mut impl Read,
+    name: &str,
+    fields: usize,
+    list: &mut [u32],
+) -> File
     ensures { FileRead result fields list.old list.new }
 {
     let mut reading = program_files::start();
     let mut reads = u64::MAX;
     while 0 < reads {
         reads -= 1;
-        let got = read_some(fd, name, fields, reading, list);
+        let got = read_some(rt, file, name, fields, reading, list);
         match got {
             Got::More(next) => {
                 reading = next;
@@ -126,21 +154,26 @@ fn read_all(fd: i32, name: &[u8], fields: usize, list: &mut [u32]) -> File
 }
 
 // Reads a file of records of so many fields each into a list.
-fn read_file(name: &[u8], fields: usize, list: &mut [u32]) -> File
+fn read_file(
+    rt: &(impl Eprint + AllocGlobal + Files),
+    name: &str,
+    fields: usize,
+    list: &mut [u32],
+) -> File
     ensures { FileRead result fields list.old list.new }
 {
-    let fd = os::open_read(name);
-    if fd < 0 {
-        os::fail(name);
-        return File::Lost;
+    match OpenFile::open(rt, name) {
+        Ok(mut file) => read_all(rt, &mut file, name, fields, list),
+        Err(error) => {
+            fail(rt, name, error);
+            File::Lost
+        }
     }
-    let file = read_all(fd, name, fields, list);
-    libc::close(fd);
-    file
 }
 
 // Follows the demand through a chunk of it, and passes the lines of each call on.
 fn follow_chunk(
+    rt: &(impl Print + Eprint + AllocGlobal),
     chunk: &[u8],
     k: usize,
     scan: Scan,
@@ -164,14 +197,14 @@ fn follow_chunk(
                 scan: next,
                 at,
             } => {
-                if !pass_on(out, at) {
+                if !pass_on(rt, out, at) {
                     return Next::Shut;
                 }
                 from += read;
                 k = period;
                 scan = next;
             }
-            Run::Over(at) => return pass_last(out, at),
+            Run::Over(at) => return pass_last(rt, out, at),
             Run::Refused(refusal) => return Next::Refused(refusal),
         }
     }
@@ -180,6 +213,7 @@ fn follow_chunk(
 
 // The demand ends, and its last lines are passed on.
 fn end_demand(
+    rt: &(impl Print + Eprint + AllocGlobal),
     k: usize,
     scan: Scan,
     table: &[u32],
@@ -192,7 +226,7 @@ fn end_demand(
 {
     let run = demand::end(k, scan, table, state, row, sheet, out);
     match run {
-        Run::Over(at) => pass_last(out, at),
+        Run::Over(at) => pass_last(rt, out, at),
         Run::On {
             read: _,
             k: _,
@@ -205,7 +239,8 @@ fn end_demand(
 
 // One read of the demand.
 fn follow_some(
-    fd: i32,
+    rt: &(impl Print + Eprint + AllocGlobal),
+    file: &mut impl Read,
     k: usize,
     scan: Scan,
     table: &[u32],
@@ -216,22 +251,21 @@ fn follow_some(
 ) -> Next
     ensures { GoesOn result asymmetric k scan row.old (corridor_of table.now state.old) sheet.old row.new (corridor_of table.now state.new) sheet.new out.new }
 {
-    let mut buffer = io::large_buffer();
-    let got = libc::read(fd, &mut buffer);
-    if got < 0 {
-        os::fail(b"demand.csv");
-        return Next::Lost;
+    let mut buffer = [0; 65_536];
+    match file.read(&mut buffer) {
+        Ok(0) => end_demand(rt, k, scan, table, state, row, sheet, out),
+        Ok(n) => follow_chunk(rt, &buffer[..n], k, scan, table, state, row, sheet, out),
+        Err(error) => {
+            fail(rt, "demand.csv", error);
+            Next::Lost
+        }
     }
-    if got == 0 {
-        return end_demand(k, scan, table, state, row, sheet, out);
-    }
-    let n = io::count(got, &buffer);
-    follow_chunk(&buffer[..n], k, scan, table, state, row, sheet, out)
 }
 
 // Reads the open demand, a period for each record, until it has ended or can't be read on.
 fn run_demand(
-    fd: i32,
+    rt: &(impl Print + Eprint + AllocGlobal),
+    file: &mut impl Read,
     table: &[u32],
     state: &mut [u32],
     row: &mut [u32],
@@ -245,7 +279,7 @@ fn run_demand(
     let mut reads = u64::MAX;
     while 0 < reads {
         reads -= 1;
-        let next = follow_some(fd, k, scan, table, state, row, sheet, out);
+        let next = follow_some(rt, file, k, scan, table, state, row, sheet, out);
         match next {
             Next::On { k: tried, scan: so } => {
                 k = tried;
@@ -269,67 +303,80 @@ fn run_demand(
 }
 
 // The demand is over, or it could not be read on while a period was tried.
-fn end_run(next: Next, out: &mut [u8]) {
+fn end_run(rt: &(impl Print + Eprint + AllocGlobal), next: Next, out: &mut [u8]) {
     match next {
-        Next::On { k, scan: _ } => halt(program_files::demand_lost(k), out),
-        Next::Lost => halt(program_files::demand_lost(0), out),
-        Next::Refused(refusal) => halt(program_files::refused_in(0, refusal), out),
+        Next::On { k, scan: _ } => halt(rt, program_files::demand_lost(k), out),
+        Next::Lost => halt(rt, program_files::demand_lost(0), out),
+        Next::Refused(refusal) => halt(rt, program_files::refused_in(0, refusal), out),
         Next::Over => {}
         Next::Shut => {}
     }
 }
 
 // The demand, under an accepted table of n cells and an accepted state.
-fn with_state(n: usize, table: &[u32], state: &mut [u32], out: &mut [u8])
+fn with_state(
+    rt: &(impl Print + Eprint + AllocGlobal + Files),
+    n: usize,
+    table: &[u32],
+    state: &mut [u32],
+    out: &mut [u8],
+)
     requires { n ≤ MOST }
 {
-    let fd = os::open_read(b"demand.csv");
-    if fd < 0 {
-        os::fail(b"demand.csv");
-        halt(program_files::demand_lost(0), out);
-        return;
-    }
+    let mut file = match OpenFile::open(rt, "demand.csv") {
+        Ok(file) => file,
+        Err(error) => {
+            fail(rt, "demand.csv", error);
+            halt(rt, program_files::demand_lost(0), out);
+            return;
+        }
+    };
     let mut row = demand_space();
     let mut sheet = sheet_space();
     let next = run_demand(
-        fd,
+        rt,
+        &mut file,
         table,
         state,
         &mut row[..demand_length(n)],
         &mut sheet[..sheet_length(n)],
         out,
     );
-    libc::close(fd);
-    end_run(next, out);
+    end_run(rt, next, out);
 }
 
 // The state, under a table of n cells.
-fn with_cells(n: usize, table: &[u32], out: &mut [u8])
+fn with_cells(
+    rt: &(impl Print + Eprint + AllocGlobal + Files),
+    n: usize,
+    table: &[u32],
+    out: &mut [u8],
+)
     requires { n ≤ MOST }
 {
     let mut space = state_space();
     let fields = state_length(n);
     let state: &mut [u32] = &mut space[..fields];
-    let file = read_file(b"state.csv", fields, state);
+    let file = read_file(rt, "state.csv", fields, state);
     let found = program_files::state_found(file, table, state);
     match found {
-        Found::Go(_) => with_state(n, table, state, out),
-        Found::Halt(stop) => halt(stop, out),
+        Found::Go(_) => with_state(rt, n, table, state, out),
+        Found::Halt(stop) => halt(rt, stop, out),
     }
 }
 
 // The header, the cells, then what follows from them.
-fn main() {
+fn main(rt: HostRuntime) {
     let mut table = table_space();
     let mut out = out_space();
     let header = lines::header(&mut out);
-    if !pass_line(header, &out) {
+    if !pass_line(&rt, header, &out) {
         return;
     }
-    let file = read_file(b"cells.csv", width(), &mut table);
+    let file = read_file(&rt, "cells.csv", width(), &mut table);
     let found = program_files::cells_found(file);
     match found {
-        Found::Go(n) => with_cells(n, &table[..table_length(n)], &mut out),
-        Found::Halt(stop) => halt(stop, &mut out),
+        Found::Go(n) => with_cells(&rt, n, &table[..table_length(n)], &mut out),
+        Found::Halt(stop) => halt(&rt, stop, &mut out),
     }
 }

@@ -17,7 +17,7 @@ use text_scans::{End, Scan, Step, feed};
 use whole_text::{check_text, fit, one, store_text, unfinished};
 
 // What reading on in a chunk finds.
-#[derive(Drop)]
+#[derive(Clone, Copy)]
 pub enum Read {
     // The record is complete, and the text goes on at this index.
     Record(usize),
@@ -28,7 +28,7 @@ pub enum Read {
 }
 
 // What a whole text is found to be.
-#[derive(Drop)]
+#[derive(Clone, Copy)]
 pub enum Text {
     // So many records.
     Holds(usize),
@@ -37,14 +37,14 @@ pub enum Text {
 }
 
 // The digits of a field after its first: the index after them, and what all of them make.
-#[derive(Drop)]
+#[derive(Clone, Copy)]
 struct Digits {
     next: usize,
     value: u32,
 }
 
 // What stands at an index where a field begins.
-#[derive(Drop)]
+#[derive(Clone, Copy)]
 enum Begun {
     // A field and the comma after it: its number, and the index after the comma.
     Whole { number: u32, next: usize },
@@ -53,14 +53,14 @@ enum Begun {
 }
 
 // How far the fields of a record are read: so many are complete, and the next begins at this index.
-#[derive(Drop)]
+#[derive(Clone, Copy)]
 struct Place {
     field: usize,
     at: usize,
 }
 
 // Where the reading stands, and the index of the byte that comes next.
-#[derive(Drop)]
+#[derive(Clone, Copy)]
 struct Opened {
     scan: Scan,
     at: usize,

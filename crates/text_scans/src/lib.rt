@@ -10,7 +10,7 @@ pub mod field;
 use field::{at_start, in_number};
 
 // Where the reading stands inside a record: `field` of its fields are complete, and `bytes` of its bytes are read.
-#[derive(Drop)]
+#[derive(Clone, Copy)]
 pub enum Scan {
     // No digit of the next field is read yet.
     Start {
@@ -28,7 +28,7 @@ pub enum Scan {
 }
 
 // What one byte does.
-#[derive(Drop)]
+#[derive(Clone, Copy)]
 pub enum Step {
     More(Scan),
     // The field of this index is complete.
@@ -44,7 +44,7 @@ pub enum Step {
 }
 
 // What the end of the text does.
-#[derive(Drop)]
+#[derive(Clone, Copy)]
 pub enum End {
     // It comes between records.
     Nothing,
