@@ -55,6 +55,7 @@ pub enum Found {
 }
 
 // One more, where there is a larger number.
+#[tactic(auto, unfolding(crate::specs::Files::counted))]
 pub fn counted(n: usize) -> usize
     ensures { result ≡ counted n }
 {
@@ -66,6 +67,7 @@ pub fn counted(n: usize) -> usize
 }
 
 // Stores a number at an index of the list, where there is one, and answers the next index.
+#[tactic(auto, unfolding(crate::specs::Files::next_index))]
 fn put(list: &mut [u32], index: usize, number: u32) -> usize
     ensures answer { result ≡ next_index (length list.old) index }
     ensures stores { list.new ≡ set list.old index number }
@@ -89,6 +91,7 @@ pub fn start() -> Reading
 }
 
 // Reads one byte of a file.
+#[tactic(auto, unfolding(crate::specs::Files::file_on, crate::specs::Files::file_of))]
 fn read_byte(byte: u8, fields: usize, reading: Reading, list: &mut [u32]) -> Reading
     ensures answer { result ≡ (file_on fields reading list.old (byte ∷ [])).0 }
     ensures stores { list.new ≡ (file_on fields reading list.old (byte ∷ [])).1 }
@@ -154,6 +157,7 @@ fn unfinished(records: usize, scan: Scan) -> File
 }
 
 // The file ends. A record that ends with it is complete, and its last number goes to the list.
+#[tactic(auto, unfolding(crate::specs::Files::file_end, crate::specs::Files::end_of))]
 pub fn read_end(fields: usize, reading: Reading, list: &mut [u32]) -> File
     ensures answer { result ≡ (file_end fields reading list.old).0 }
     ensures stores { list.new ≡ (file_end fields reading list.old).1 }
@@ -210,6 +214,7 @@ pub fn refused_in(period: usize, refusal: Refusal) -> Stop
 }
 
 // What the cells come to: 12 for any of their records, then 1 on N.
+#[tactic(auto, unfolding(crate::specs::Files::cells_found))]
 pub fn cells_found(file: File) -> Found
     ensures { result ≡ cells_found file }
 {
@@ -227,6 +232,7 @@ pub fn cells_found(file: File) -> Found
 }
 
 // Numbers 2 to 5.
+#[tactic(auto, unfolding(crate::specs::Files::accepted_then))]
 fn accepted_then(table: &[u32], state: &[u32]) -> Found
     ensures { result ≡ accepted_then (answer (state_checks (corridor_of table.now state.now))) }
 {
@@ -238,6 +244,7 @@ fn accepted_then(table: &[u32], state: &[u32]) -> Found
 }
 
 // What the state comes to: 12 for its one record, or one after it, then 2 to 5.
+#[tactic(auto, unfolding(crate::specs::Files::state_found))]
 pub fn state_found(file: File, table: &[u32], state: &[u32]) -> Found
     ensures { result ≡ state_found file (corridor_of table.now state.now) }
 {

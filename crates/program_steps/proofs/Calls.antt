@@ -1,10 +1,10 @@
 -- The calls of `follow`, `end` and the two lines, whatever their lists. Assumes nothing.
 use Prim.Native.Nat.{ℕ, ◌+◌, ◌-◌, ◌/◌, ◌≤◌, ◌<◌}
 use mathlib.Core.Path.{◌≡◌, refl, sym, ap, ◌∙◌}
-use mathlib.Core.Bool.{Bool, true, false, not, ◌&&◌}
+use mathlib.Core.Bool.{Bool, true, false, ◌&&◌}
 use mathlib.Core.List.{List}
 use native.Mathlib.Omega.{arith}
-use borrow.Author.Tests.{leb-true, leb-false, eqb-true, le-leb, lt-leb, lt-ltb, le-ltb, not-true, not-false}
+use borrow.Author.Tests.{leb-true, leb-false, eqb-true, le-leb, lt-leb, lt-ltb, le-ltb}
 use lib.Dec.{ltb, leb, eqb}
 use lib.ListN.{length}
 use Rattle.whole.proofs.Tests.{both_hold}
@@ -28,9 +28,7 @@ use Rattle.program_steps.specs.Lines.{line_room, line_written, after_line}
 use Rattle.program_steps.specs.Turns.{Did, reads, breaks, refuses, passes, did, last_read, did_text, lines_of, demand_answer}
 use Rattle.program_steps.specs.Demand.{Followed, lines_room, follow_end, follow_lists_fit, follow_checks, if_accepted, run_of, Leaves}
 use Rattle.program_steps.specs.declared.Run.{Run}
-use Rattle.program_steps.specs.declared.Run.TheVariants as Run
 use Rattle.program_steps.specs.declared.Turn.{Turn}
-use Rattle.program_steps.specs.declared.Turn.TheVariants as Turn
 use Rattle.program_steps.specs.Private.{ReadyAt, Put, turn_of, Turned, written_to}
 
 -- a line at the start of an output
@@ -45,8 +43,8 @@ line_put out text {to} has put =
     let so_many : to ≡ length text = omega (arith, put.ends) in
     (rw (le-leb line_room (length out) has) (ap To so_many), rw (le-leb line_room (length out) has) put.stores)
 
-pub no_room : (n size at : ℕ) → size < at → false ≡ leb (lines_room n) (size - at)
-no_room n size at past = sym (lt-leb (lines_room n) (size - at) (omega arith))
+pub no_room_lem : (n size at : ℕ) → size < at → false ≡ leb (lines_room n) (size - at)
+no_room_lem n size at past = sym (lt-leb (lines_room n) (size - at) (omega arith))
 
 -- as many whole lines as the room has, against a period's n + 1
 pub lines_told : (n room : ℕ) → ltb n (room / line_room) ≡ leb (lines_room n) room
@@ -64,15 +62,15 @@ unfolding follow_lists_fit
 lists_told n row sheet out of_row of-sheet has = let all : length out - 0 ≡ length out = omega arith in rw (has, of_row, of-sheet, all)
 
 -- r tells whether the row, the sheet and the output fit
-pub lists_refused : (c : Corridor) (row sheet out : List ℕ) {r : Bool} → r ≡ follow_lists_fit (cells_of c) row sheet out → not r ≡ true
+pub lists_refused : (c : Corridor) (row sheet out : List ℕ) {r : Bool} → r ≡ follow_lists_fit (cells_of c) row sheet out → r ≡ false
     → Refused Length ≡ answer (follow_checks c row sheet out)
 unfolding follow_checks
-lists_refused c row sheet out e fails = length_fails (state_numbers c) (state_lengths_fit c) (sym e ∙ not-true _ fails)
+lists_refused c row sheet out e fails = length_fails (state_numbers c) (state_lengths_fit c) (sym e ∙ fails)
 
-pub lists_left : (c : Corridor) (row sheet out : List ℕ) {r : Bool} {a : Answer} → r ≡ follow_lists_fit (cells_of c) row sheet out → not r ≡ false
+pub lists_left : (c : Corridor) (row sheet out : List ℕ) {r : Bool} {a : Answer} → r ≡ follow_lists_fit (cells_of c) row sheet out → r ≡ true
     → a ≡ answer (state_checks c) → a ≡ answer (follow_checks c row sheet out)
 unfolding follow_checks
-lists_left c row sheet out e fit found = found ∙ sym (length_fits_too (state_numbers c) (state_lengths_fit c) (sym e ∙ not-false _ fit))
+lists_left c row sheet out e fit found = found ∙ sym (length_fits_too (state_numbers c) (state_lengths_fit c) (sym e ∙ fit))
 
 pub lists_ready : (c : Corridor) (row sheet out : List ℕ) → answer (follow_checks c row sheet out) ≡ Accepted → ReadyAt c row sheet out 0
 unfolding follow_checks follow_lists_fit

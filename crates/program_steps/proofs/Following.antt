@@ -20,7 +20,6 @@ use Rattle.text_scans.specs.declared.Step.{Step}
 use Rattle.text_scans.specs.declared.Step.TheVariants.{More, Field, Complete, Breaks}
 use Rattle.text_records.specs.Reads.{read_from, read_on, row_from, row_on}
 use Rattle.text_records.specs.declared.Read.{Read}
-use Rattle.text_records.specs.declared.Read.TheVariants as Read
 use Rattle.text_laws.proofs.Pieces.{reaches_on}
 use Rattle.period.specs.Sharing.{Sharing}
 use Rattle.period.specs.Period.{sheet_of, corridor_after}
@@ -33,7 +32,6 @@ use Rattle.program_steps.specs.Demand.{later, over, Followed, silent, stopped, a
 use Rattle.program_steps.specs.declared.Run.{Run}
 use Rattle.program_steps.specs.declared.Run.TheVariants.{On, Over}
 use Rattle.program_steps.specs.declared.Turn.{Turn}
-use Rattle.program_steps.specs.declared.Turn.TheVariants as Turn
 use Rattle.program_steps.specs.Private.{turn_of, Turned, Ready, ReadyAt}
 use Rattle.program_steps.proofs.Turning.{ready_again}
 

@@ -1,5 +1,5 @@
 -- Any run of the program's steps, over files cut into chunks in any way, writes what the program is defined to write. Assumes nothing.
-use Prim.Native.Nat.{ℕ, suc, ◌+◌, ◌*◌, ◌≤◌, ◌<◌}
+use Prim.Native.Nat.{ℕ, suc, ◌*◌, ◌≤◌, ◌<◌}
 use mathlib.Core.Path.{◌≡◌, refl, sym, ap, ◌∙◌}
 use mathlib.Core.Bool.{Bool, true, false}
 use mathlib.Core.List.{List, [], ◌∷◌, ◌++◌}
@@ -18,7 +18,6 @@ use Rattle.text_scans.specs.Scans.{begin}
 use Rattle.text_records.specs.Texts.{together}
 use Rattle.text_records.specs.Reads.{held, numbers}
 use Rattle.text_records.specs.declared.Text.{Text}
-use Rattle.text_records.specs.declared.Text.TheVariants as Text
 use Rattle.text_laws.proofs.Accepted.{accepted_count}
 use Rattle.accept_rows.specs.Acceptance.{state_checks}
 use Rattle.period.specs.Sharing.{Sharing}

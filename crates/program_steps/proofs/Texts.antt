@@ -19,7 +19,6 @@ use Rattle.text_scans.specs.declared.End.TheVariants.{Nothing, Cut}
 use Rattle.text_records.specs.Texts.{together}
 use Rattle.text_records.specs.Reads.{text_from, text_on, numbers_from, numbers_on, text_at_end}
 use Rattle.text_records.specs.declared.Text.{Text}
-use Rattle.text_records.specs.declared.Text.TheVariants as Text
 use Rattle.program_files.specs.Files as files
 use Rattle.program_files.specs.Files.{counted, next_index, file_of, file_on, file_end}
 use Rattle.program_files.specs.declared.Reading.{Reading}

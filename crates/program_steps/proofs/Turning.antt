@@ -1,24 +1,18 @@
 -- A turn: from the answer of a demand row to what is written and left. Assumes nothing.
 use Prim.Native.Nat.{ℕ, ◌+◌, ◌<◌}
 use mathlib.Core.Path.{◌≡◌, refl, sym, ap, ◌∙◌}
-use mathlib.Core.Bool.{true}
 use mathlib.Core.List.{List, []}
 use native.Mathlib.Omega.{arith}
 use lib.ListN.{length}
 use Rattle.refusals.specs.declared.Refusal.{Refusal}
 use Rattle.refusals.specs.declared.Answer.{Answer}
 use Rattle.refusals.specs.declared.Answer.TheVariants.{Accepted, Refused}
-use Rattle.refusals.specs.Checks.{answer, lengths}
-use Rattle.refusals.proofs.Answers.{accepted_passes}
-use Rattle.layout.specs.Layout.{demand_length}
-use Rattle.layout.specs.Sheet.{sheet_length}
 use Rattle.layout.specs.Corridor.{Corridor, corridor_of, cells_of}
 use Rattle.text_scans.specs.declared.Scan.{Scan}
 use Rattle.text_records.specs.Reads.{read_on}
 use Rattle.text_records.specs.declared.Read.{Read}
-use Rattle.text_records.specs.declared.Read.TheVariants.{Record, Part, Broken}
+use Rattle.text_records.specs.declared.Read.TheVariants.{Record, Broken}
 use Rattle.text_laws.proofs.Pieces.{reaches_on}
-use Rattle.accept_rows.specs.Acceptance.{state_lengths_fit, state_numbers, state_checks}
 use Rattle.accept_rows.proofs.Lengths.{state_length_lem, cells_most}
 use Rattle.period.specs.Sharing.{Sharing}
 use Rattle.period.specs.Period.{sheet_of, state_after, RowDone, corridor_after}

@@ -24,7 +24,6 @@ use Rattle.program_files.specs.declared.Stop.{Stop}
 use Rattle.program_steps.specs.Lines.{line_room, stop_text}
 use Rattle.program_steps.specs.Turns.{Did, did, last_read, did_text, when_passed, demand_answer, lines_of}
 use Rattle.program_steps.specs.declared.Run.{Run}
-use Rattle.program_steps.specs.declared.Run.TheVariants as Run
 
 -- how following ends
 pub data How : Type 0 where

@@ -14,7 +14,6 @@ use Rattle.text_scans.specs.declared.End.{End}
 use Rattle.text_scans.specs.declared.End.TheVariants.{Nothing, Last, Cut}
 use Rattle.text_records.specs.Reads.{held, numbers, row_at_end}
 use Rattle.text_records.specs.declared.Text.{Text}
-use Rattle.text_records.specs.declared.Text.TheVariants as Text
 use Rattle.period.specs.Sharing.{Sharing}
 use Rattle.period.specs.Period.{corridor_after}
 use Rattle.program_files.specs.Stops.{broken, refused_in}

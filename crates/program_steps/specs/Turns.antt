@@ -10,7 +10,7 @@ use Rattle.text_scans.specs.declared.Scan.{Scan}
 use Rattle.text_scans.specs.declared.End.{End}
 use Rattle.text_scans.specs.declared.End.TheVariants.{Nothing, Last, Cut}
 use Rattle.text_records.specs.declared.Read.{Read}
-use Rattle.text_records.specs.declared.Read.TheVariants.{Record, Part, Broken}
+use Rattle.text_records.specs.declared.Read.TheVariants.{Record, Broken}
 use Rattle.accept_rows.specs.Acceptance.{demand_numbers}
 use Rattle.period.specs.Sharing.{Sharing}
 use Rattle.period.specs.Period.{sheet_of, state_after}
