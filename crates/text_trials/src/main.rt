@@ -3,6 +3,7 @@
 #![tactic(auto)]
 
 use refusals::Refusal;
+use std::io;
 use text_digits::Written;
 use text_records::{Read, Text};
 use text_scans::{End, Scan};
@@ -12,162 +13,147 @@ fn wide(number: u32) -> u64 {
 }
 
 // Prints the bytes of a buffer before a position.
-fn print_start(buffer: &[u8], end: usize) {
+fn print_start(rt: &impl Print, buffer: &[u8], end: usize) -> io::Result<()> {
     if end <= buffer.len() {
-        io::write_all(1, &buffer[..end]);
+        rt.write_all(&buffer[..end])?;
     }
+    Ok(())
 }
 
 // Prints the number and the place of a refusal.
-fn print_refusal(refusal: Refusal) {
-    io::write_all(1, b"refused ");
-    io::print_decimal(1, wide(refusals::number(refusal)));
-    io::write_all(1, b" at ");
-    io::print_decimal(1, refusals::place(refusal) as u64);
+fn print_refusal(rt: &impl Print, refusal: Refusal) -> io::Result<()> {
+    let number = refusals::number(refusal);
+    let place = refusals::place(refusal);
+    print!(rt; "refused {number} at {place}")
 }
 
 // Prints what was written at the start of a buffer.
-fn print_written(written: Written, buffer: &[u8]) {
+fn print_written(rt: &impl Print, written: Written, buffer: &[u8]) -> io::Result<()> {
     match written {
-        Written::To(end) => print_start(buffer, end),
+        Written::To(end) => print_start(rt, buffer, end),
         Written::Refused(refusal) => {
-            print_refusal(refusal);
-            io::write_all(1, b"\n");
+            print_refusal(rt, refusal)?;
+            println!(rt; "")
         }
     }
 }
 
 // Prints the four numbers of a list as a record.
-fn print_list(list: &[u32; 4]) {
+fn print_list(rt: &impl Print, list: &[u32; 4]) -> io::Result<()> {
     let record = [wide(list[0]), wide(list[1]), wide(list[2]), wide(list[3])];
     let mut line = [0u8; 64];
     let written = text_digits::write_record(&record, &mut line, 0);
-    print_written(written, &line);
+    print_written(rt, written, &line)
 }
 
 // Prints what a text was found to be.
-fn print_text(found: Text) {
+fn print_text(rt: &impl Print, found: Text) -> io::Result<()> {
     match found {
-        Text::Holds(records) => {
-            io::write_all(1, b"holds ");
-            io::print_decimal(1, records as u64);
-        }
-        Text::Refused(refusal) => print_refusal(refusal),
+        Text::Holds(records) => print!(rt; "holds {records}")?,
+        Text::Refused(refusal) => print_refusal(rt, refusal)?,
     }
-    io::write_all(1, b": ");
+    print!(rt; ": ")
 }
 
 // A text of two fields a record, read into a list of four numbers.
-fn pairs(bytes: &[u8]) {
+fn pairs(rt: &impl Print, bytes: &[u8]) -> io::Result<()> {
     let mut list = [7u32; 4];
     let found = text_records::read_text(bytes, 2, &mut list);
-    print_text(found);
-    print_list(&list);
+    print_text(rt, found)?;
+    print_list(rt, &list)
 }
 
 // A text of exactly one record of four fields.
-fn one(bytes: &[u8]) {
+fn one(rt: &impl Print, bytes: &[u8]) -> io::Result<()> {
     let mut row = [7u32; 4];
     let found = text_records::read_one(bytes, &mut row);
-    print_text(found);
-    print_list(&row);
+    print_text(rt, found)?;
+    print_list(rt, &row)
 }
 
 // Prints what the end of a text did.
-fn print_end(end: End) {
+fn print_end(rt: &impl Print, end: End) -> io::Result<()> {
     match end {
-        End::Nothing => {
-            io::write_all(1, b"nothing: ");
-        }
-        End::Last => {
-            io::write_all(1, b"a last record: ");
-        }
-        End::Cut => {
-            io::write_all(1, b"cut: ");
-        }
+        End::Nothing => print!(rt; "nothing: "),
+        End::Last => print!(rt; "a last record: "),
+        End::Cut => print!(rt; "cut: "),
     }
 }
 
 // A record of four fields whose text ends with a piece, from where its reading stands.
-fn last_piece(scan: Scan, bytes: &[u8], given: [u32; 4]) {
+fn last_piece(rt: &impl Print, scan: Scan, bytes: &[u8], given: [u32; 4]) -> io::Result<()> {
     let mut row = given;
     let read = text_records::read_record(bytes, 0, scan, &mut row);
     match read {
-        Read::Record(at) => {
-            io::write_all(1, b"a record, and the next at ");
-            io::print_decimal(1, at as u64);
-            io::write_all(1, b": ");
-        }
-        Read::Part(scan) => print_end(text_records::finish(scan, &mut row)),
-        Read::Broken => {
-            io::write_all(1, b"broken: ");
-        }
+        Read::Record(at) => print!(rt; "a record, and the next at {at}: ")?,
+        Read::Part(scan) => print_end(rt, text_records::finish(scan, &mut row))?,
+        Read::Broken => print!(rt; "broken: ")?,
     }
-    print_list(&row);
+    print_list(rt, &row)
 }
 
 // A record of four fields that comes in two pieces.
-fn pieces(first: &[u8], second: &[u8]) {
+fn pieces(rt: &impl Print, first: &[u8], second: &[u8]) -> io::Result<()> {
     let mut row = [7u32; 4];
     let read = text_records::read_record(first, 0, text_scans::begin(), &mut row);
     match read {
         Read::Record(_) => {
-            io::write_all(1, b"a record in the first piece: ");
-            print_list(&row);
+            print!(rt; "a record in the first piece: ")?;
+            print_list(rt, &row)
         }
-        Read::Part(scan) => last_piece(scan, second, row),
+        Read::Part(scan) => last_piece(rt, scan, second, row),
         Read::Broken => {
-            io::write_all(1, b"broken in the first piece: ");
-            print_list(&row);
+            print!(rt; "broken in the first piece: ")?;
+            print_list(rt, &row)
         }
     }
 }
 
-fn good() {
-    pairs(b"");
-    pairs(b"0,10\r\n");
-    pairs(b"1,2\r\n3,4\r\n");
-    pairs(b"1,2\r\n3,4294967295");
-    one(b"500,8000,4000,0");
-    pieces(b"500,80", b"00,4000,0\r\n1");
-    pieces(b"500,8000,4000,0\r", b"\n");
-    pieces(b"500,8000,4000,", b"42");
-    pieces(b"", b"");
+fn good(rt: &impl Print) -> io::Result<()> {
+    pairs(rt, b"")?;
+    pairs(rt, b"0,10\r\n")?;
+    pairs(rt, b"1,2\r\n3,4\r\n")?;
+    pairs(rt, b"1,2\r\n3,4294967295")?;
+    one(rt, b"500,8000,4000,0")?;
+    pieces(rt, b"500,80", b"00,4000,0\r\n1")?;
+    pieces(rt, b"500,8000,4000,0\r", b"\n")?;
+    pieces(rt, b"500,8000,4000,", b"42")?;
+    pieces(rt, b"", b"")
 }
 
-fn damaged() {
-    pairs(b"1,02\r\n");
-    pairs(b"1,4294967296\r\n");
-    pairs(b"1,2\r\n12345678901,1");
-    pairs(b"1,2\n3,4\n");
-    pairs(b"1,2\n");
-    pairs(b"1,2\r3,4\r\n");
-    pairs(b"1,2\r\n3,4\r");
-    pairs(b"1,2\r\n\r\n");
-    pairs(b"1,2\r\n3,\r\n");
-    pairs(b"1,2\r\n3\r\n");
-    pairs(b"1,2,3\r\n");
-    pairs(b"-1,2\r\n");
-    pairs(b"1, 2\r\n");
-    pairs(b"1,2\r\n3,4\r\n5,6\r\n");
-    one(b"");
-    one(b"1,2,3,4\r\n5");
-    pieces(b"1,2,", b"");
-    pieces(b"1,2,3,4\n", b"");
+fn damaged(rt: &impl Print) -> io::Result<()> {
+    pairs(rt, b"1,02\r\n")?;
+    pairs(rt, b"1,4294967296\r\n")?;
+    pairs(rt, b"1,2\r\n12345678901,1")?;
+    pairs(rt, b"1,2\n3,4\n")?;
+    pairs(rt, b"1,2\n")?;
+    pairs(rt, b"1,2\r3,4\r\n")?;
+    pairs(rt, b"1,2\r\n3,4\r")?;
+    pairs(rt, b"1,2\r\n\r\n")?;
+    pairs(rt, b"1,2\r\n3,\r\n")?;
+    pairs(rt, b"1,2\r\n3\r\n")?;
+    pairs(rt, b"1,2,3\r\n")?;
+    pairs(rt, b"-1,2\r\n")?;
+    pairs(rt, b"1, 2\r\n")?;
+    pairs(rt, b"1,2\r\n3,4\r\n5,6\r\n")?;
+    one(rt, b"")?;
+    one(rt, b"1,2,3,4\r\n5")?;
+    pieces(rt, b"1,2,", b"")?;
+    pieces(rt, b"1,2,3,4\n", b"")
 }
 
 // A record of nine bytes, written into a buffer of nine, and from its second byte on.
-fn full() {
+fn full(rt: &impl Print) -> io::Result<()> {
     let record = [10, 20, 4];
     let mut line = [0u8; 9];
     let written = text_digits::write_record(&record, &mut line, 0);
-    print_written(written, &line);
+    print_written(rt, written, &line)?;
     let late = text_digits::write_record(&record, &mut line, 1);
-    print_written(late, &line);
+    print_written(rt, late, &line)
 }
 
-fn main() {
-    good();
-    damaged();
-    full();
+fn main(rt: HostRuntime) -> io::Result<()> {
+    good(&rt)?;
+    damaged(&rt)?;
+    full(&rt)
 }
