@@ -11,7 +11,7 @@ mod row;
 
 use refusals::Refusal;
 
-#[derive(Drop)]
+#[derive(Clone, Copy)]
 pub struct Diagram {
     pub speed: f64,
     pub capacity: f64,
@@ -21,7 +21,7 @@ pub struct Diagram {
 }
 
 // v, w, F and J before rounding.
-#[derive(Drop)]
+#[derive(Clone, Copy)]
 pub struct RowValues {
     pub v: f64,
     pub w: f64,

@@ -11,7 +11,7 @@ use decimal::{fits, line_fits, put_digits, put_line, put_rest};
 use refusals::Refusal;
 
 // Where writing into a buffer ended.
-#[derive(Drop)]
+#[derive(Clone, Copy)]
 pub enum Written {
     // The position after the last byte written.
     To(usize),

@@ -14,7 +14,7 @@ use Rattle.text_digits.proofs.Digits.{one_digit, more_digits_lem}
 use Rattle.text_digits.specs.Lines.{LF, CR, DIGIT, digits_of, further_text, record_text, line_text}
 use Rattle.text_records.proofs.Comes.{feeds_comma}
 use Rattle.text_laws.proofs.Fed.{feeds_first, feeds_next, feeds_return, feeds_line}
-use Rattle.text_records.specs.Texts.{text_of, Small, none, and, Fits, AllFit, none_left, and_then, TextOf, closed, left_open, together}
+use Rattle.text_records.specs.Texts.{text_of, Small, and, Fits, AllFit, none_left, and_then, TextOf, closed, left_open, together}
 use Rattle.text_scans.specs.Scans.{LARGEST, LONGEST, begin, feed, ended}
 use Rattle.text_scans.specs.Scans as scans
 use Rattle.text_records.specs.Reads.{read_from, read_on, row_from, row_on, row_at_end, text_from, text_on, numbers_from, numbers_on, held, numbers}

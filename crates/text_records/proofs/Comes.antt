@@ -1,10 +1,10 @@
 -- Reading on from one place comes to what reading on from a later one comes to: step by step, and one after the other. Assumes nothing.
 use Prim.Native.Nat.{ℕ, ◌+◌, ◌-◌, ◌*◌, ◌≤◌, ◌<◌}
 use mathlib.Core.Path.{◌≡◌, refl, sym, ◌∙◌}
-use mathlib.Core.Bool.{Bool, false, not}
+use mathlib.Core.Bool.{Bool, true}
 use mathlib.Core.List.{List}
 use native.Mathlib.Omega.{arith}
-use borrow.Author.Tests.{lt-ltb, le-leb, ne_eqb, leb-true, not-false}
+use borrow.Author.Tests.{lt-ltb, le-leb, ne_eqb, leb-true}
 use lib.Dec.{leb}
 use lib.ListN.{length, get_or, drop, set}
 use Rattle.text_digits.proofs.Stores.{rest_of}
@@ -73,9 +73,9 @@ module _ (chunk : List ℕ) (at field bytes : ℕ) (h : at < length chunk) (room
       (rw is (feeds_comma fields field bytes value more room))
 
 -- a byte whose test for a digit held
-pub is_digit : (byte : ℕ) {r : Bool} → r ≡ is_digit byte → not r ≡ false → (DIGIT ≤ byte) × (byte ≤ DIGIT + 9)
-is_digit byte e h =
-    let parts = both_hold (leb 48 byte) (leb byte 57) (sym e ∙ not-false _ h) in
+pub is_digit_lem : (byte : ℕ) {r : Bool} → r ≡ is_digit byte → r ≡ true → (DIGIT ≤ byte) × (byte ≤ DIGIT + 9)
+is_digit_lem byte e h =
+    let parts = both_hold (leb 48 byte) (leb byte 57) (sym e ∙ h) in
     (leb-true 48 byte parts.0, leb-true byte 57 parts.1)
 
 -- Digits after the first, one after the other.

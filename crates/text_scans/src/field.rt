@@ -33,6 +33,7 @@ fn is_last(field: usize, fields: usize) -> bool
 }
 
 // A byte where a field begins.
+#[tactic(auto, unfolding(crate::specs::Scans::at_start))]
 pub(crate) fn at_start(field: usize, bytes: usize, byte: u8) -> Step
     ensures { result ≡ at_start field bytes byte }
 {
@@ -48,6 +49,7 @@ pub(crate) fn at_start(field: usize, bytes: usize, byte: u8) -> Step
 }
 
 // A digit after others, worked out in 64 bits.
+#[tactic(auto, unfolding(crate::specs::Scans::longer))]
 fn longer(field: usize, bytes: usize, value: u32, digit: u8) -> Step
     requires { digit < 10 }
     ensures { result ≡ longer field bytes value digit }
@@ -65,6 +67,7 @@ fn longer(field: usize, bytes: usize, value: u32, digit: u8) -> Step
 }
 
 // A byte after a field's first digit.
+#[tactic(auto, unfolding(crate::specs::Scans::in_number))]
 pub(crate) fn in_number(field: usize, bytes: usize, value: u32, byte: u8, fields: usize) -> Step
     ensures { result ≡ in_number field bytes value byte fields }
 {

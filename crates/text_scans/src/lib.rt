@@ -62,6 +62,7 @@ pub fn begin() -> Scan
 }
 
 // What one byte does in a record of so many fields.
+#[tactic(auto, unfolding(crate::specs::Scans::feed))]
 pub fn feed(scan: Scan, byte: u8, fields: usize) -> Step
     ensures { result ≡ feed scan byte fields }
 {
