@@ -58,11 +58,10 @@ fn fail(rt: &(impl Eprint + AllocGlobal), what: &str, error: Error) {
     let Ok(text) = format!(in rt.alloc(); "{error}") else {
         return;
     };
-    let reason = match text.as_str().split_once(" (os error ") {
-        Some((reason, _)) => reason,
-        None => text.as_str(),
+    let _said = match text.as_str().split_once(" (os error ") {
+        Some((reason, _)) => eprintln!(rt; "{what}: {reason}"),
+        None => eprintln!(rt; "{what}: {error}"),
     };
-    let _ = eprintln!(rt; "{what}: {reason}");
 }
 
 // Passes the start of the output on. Where it cannot be written, that is said on standard error.
