@@ -20,7 +20,7 @@ use refusals::Refusal;
 
 // What a calibration is told beside its samples: the effective vehicle length g in miles, the lanes, the period T in whole
 // seconds, the cell's length L in miles, and the stretch of samples in free flow, counted from 0, the end not included.
-#[derive(Drop)]
+#[derive(Clone, Copy)]
 pub struct Settings {
     pub g: f64,
     pub lanes: u32,
@@ -31,7 +31,7 @@ pub struct Settings {
 }
 
 // Why a sample is unusable: the first of these that applies.
-#[derive(Drop)]
+#[derive(Clone, Copy)]
 pub enum Cause {
     FlowNotFinite,
     FlowOutOfRange,
@@ -40,14 +40,14 @@ pub enum Cause {
 }
 
 // A sample as it is read: a flow with a density, or the cause.
-#[derive(Drop)]
+#[derive(Clone, Copy)]
 pub enum Sample {
     Good(f64, f64),
     Unusable(Cause),
 }
 
 // Two sums over the same samples, the one to be divided by the other.
-#[derive(Drop)]
+#[derive(Clone, Copy)]
 pub struct Sums {
     pub top: f64,
     pub bottom: f64,

@@ -6,6 +6,7 @@
 use calibrate_fit::{Calibration, Settings};
 use calibrate_rows::{Diagram, RowNumbers};
 use refusals::Refusal;
+use std::io;
 
 // What is carried from set to set: the next draw, and the digest so far.
 #[derive(Drop)]
@@ -204,7 +205,7 @@ fn trials_of(count: u64, first: Trials, flow: &mut [f64], occupancy: &mut [f64])
     trials
 }
 
-fn run(flow: &mut [f64], occupancy: &mut [f64]) {
+fn run(rt: &impl Print, flow: &mut [f64], occupancy: &mut [f64]) -> io::Result<()> {
     let mut trials = Trials {
         draw: 88_172_645_463_325_252,
         digest: 1,
@@ -212,14 +213,15 @@ fn run(flow: &mut [f64], occupancy: &mut [f64]) {
     let mut block: u32 = 0;
     while block < 8 {
         trials = trials_of(2_048, trials, flow, occupancy);
-        io::print_decimal(1, trials.digest);
-        io::write_all(1, b"\n");
+        let digest = trials.digest;
+        println!(rt; "{digest}")?;
         block += 1;
     }
+    Ok(())
 }
 
-fn main() {
+fn main(rt: HostRuntime) -> io::Result<()> {
     let mut flow = [0.0; 48];
     let mut occupancy = [0.0; 48];
-    run(&mut flow, &mut occupancy);
+    run(&rt, &mut flow, &mut occupancy)
 }

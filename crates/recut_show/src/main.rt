@@ -6,6 +6,7 @@
 use layout::{cells, ramp_at, ramp_positions, row_at};
 use recut::Share;
 use refusals::Answer;
+use std::io;
 
 // One cell with on-ramp 11 and off-ramp 12, in the columns v, w, F, J, on, x, c, off, b, dropped.
 const OLD: [u32; 10] = [16_384, 8_192, 950, 12_000, 11, 16_384, 500, 12, 16_384, 900];
@@ -29,88 +30,83 @@ fn ten_periods(table: &[u32], state: &mut [u32], row: &[u32], sheet: &mut [u32])
 }
 
 // Prints the state of n cells, and the vehicles in its cells and queues.
-fn show_state(word: &[u8], n: usize, state: &[u32]) {
-    show::list(word, state);
-    show::vehicles(b", vehicles ", n, state);
+fn show_state(rt: &impl Print, word: &str, n: usize, state: &[u32]) -> io::Result<()> {
+    show::list(rt, word, state)?;
+    show::vehicles(rt, ", vehicles ", n, state)
 }
 
 // Prints the ramp numbers along the road; 0 is no ramp.
-fn show_ramps(table: &[u32]) {
-    io::write_all(1, b"ramps along the road:");
+fn show_ramps(rt: &impl Print, table: &[u32]) -> io::Result<()> {
+    print!(rt; "ramps along the road:")?;
     let n = ramp_positions(cells(table));
     let mut k: usize = 0;
     while k < n {
         let ramp = ramp_at(table, k);
         if ramp != 0 {
-            io::write_all(1, b" ");
-            io::print_decimal(1, ramp as u64);
+            print!(rt; " {ramp}")?;
         }
         k += 1;
     }
-    io::write_all(1, b"\n");
+    println!(rt; "")
 }
 
 // Prints the steps of one share by hand: n times the piece's J, the remainder that it got, its vehicles and the remainder that it leaves.
-fn show_share(n: u32, jam: u32, rest: u32, share: Share) {
-    io::write_all(1, b"n*j ");
-    io::print_decimal(1, n as u64 * jam as u64);
-    io::write_all(1, b" and remainder ");
-    io::print_decimal(1, rest as u64);
-    io::write_all(1, b": share ");
-    io::print_decimal(1, share.vehicles);
-    io::write_all(1, b", leaves ");
-    io::print_decimal(1, share.rest as u64);
-    io::write_all(1, b"\n");
+fn show_share(rt: &impl Print, n: u32, jam: u32, rest: u32, share: Share) -> io::Result<()> {
+    let product = n as u64 * jam as u64;
+    let vehicles = share.vehicles;
+    let left = share.rest;
+    println!(rt; "n*j {product} and remainder {rest}: share {vehicles}, leaves {left}")
 }
 
 // Shares a cell that holds n out by hand among the cells that it is cut into, each from the remainder that the one before it left.
-fn show_shares(n: u32, whole: u32, new: &[u32]) {
+fn show_shares(rt: &impl Print, n: u32, whole: u32, new: &[u32]) -> io::Result<()> {
     let pieces = cells(new);
     let mut rest: u32 = 0;
     let mut j: usize = 0;
     while j < pieces {
         let jam = row_at(new, j).jam;
         let share = recut::share_by_hand(n, whole, jam, rest);
-        show_share(n, jam, rest, share);
+        show_share(rt, n, jam, rest, share)?;
         rest = share.rest;
         j += 1;
     }
+    Ok(())
 }
 
 // Joins the three cells again under the running corridor, and goes on.
-fn join_again(cut: &[u32]) {
+fn join_again(rt: &impl Print, cut: &[u32]) -> io::Result<()> {
     let mut joined = [0u32; 4];
     let mut sheet = [0u32; 5];
-    io::write_all(1, b"joined again: ");
-    show::answer(join::join(&NEW, cut, &[3], &OLD, &mut joined));
-    show_state(b"sums: Q n q mode", 1, &joined);
-    show_ramps(&OLD);
+    print!(rt; "joined again: ")?;
+    show::answer(rt, join::join(&NEW, cut, &[3], &OLD, &mut joined))?;
+    show_state(rt, "sums: Q n q mode", 1, &joined)?;
+    show_ramps(rt, &OLD)?;
     ten_periods(&OLD, &mut joined, &[800, 600, 0], &mut sheet);
-    show_state(b"after ten more: Q n q mode", 1, &joined);
+    show_state(rt, "after ten more: Q n q mode", 1, &joined)
 }
 
-fn main() {
+fn main(rt: HostRuntime) -> io::Result<()> {
     let mut state = [0u32, 6_001, 300, 0];
     let mut sheet = [0u32; 5];
-    show::list(b"old cell (v w F J on x c off b dropped):", &OLD);
-    io::write_all(1, b"\n");
-    show_ramps(&OLD);
+    show::list(&rt, "old cell (v w F J on x c off b dropped):", &OLD)?;
+    println!(rt; "")?;
+    show_ramps(&rt, &OLD)?;
     ten_periods(&OLD, &mut state, &[800, 600, 0], &mut sheet);
-    show_state(b"after ten periods: Q n q mode", 1, &state);
-    show::list(b"sheet (entry f s r mode):", &sheet);
-    io::write_all(1, b"\n");
+    show_state(&rt, "after ten periods: Q n q mode", 1, &state)?;
+    show::list(&rt, "sheet (entry f s r mode):", &sheet)?;
+    println!(rt; "")?;
     let mut cut = [0u32; 10];
-    show::list(b"new cells:", &NEW);
-    io::write_all(1, b"\n");
-    show_ramps(&NEW);
-    io::write_all(1, b"cut into three: ");
-    show::answer(recut::recut(&OLD, &state, &[3], &NEW, &mut cut));
-    show_shares(state[1], 12_000, &NEW);
-    show_state(b"shares: Q, n, q, modes", 3, &cut);
+    show::list(&rt, "new cells:", &NEW)?;
+    println!(rt; "")?;
+    show_ramps(&rt, &NEW)?;
+    print!(rt; "cut into three: ")?;
+    show::answer(&rt, recut::recut(&OLD, &state, &[3], &NEW, &mut cut))?;
+    show_shares(&rt, state[1], 12_000, &NEW)?;
+    show_state(&rt, "shares: Q, n, q, modes", 3, &cut)?;
     let mut new_sheet = [0u32; 13];
     ten_periods(&NEW, &mut cut, &[800, 600, 0, 0, 0, 0, 0], &mut new_sheet);
-    show_state(b"after ten more: Q, n, q, modes", 3, &cut);
-    show::list(b"sheet (entry, f, s, r, modes):", &new_sheet);
-    io::write_all(1, b"\n");
-    join_again(&cut);
+    show_state(&rt, "after ten more: Q, n, q, modes", 3, &cut)?;
+    show::list(&rt, "sheet (entry, f, s, r, modes):", &new_sheet)?;
+    println!(rt; "")?;
+    join_again(&rt, &cut)
 }

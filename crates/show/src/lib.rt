@@ -3,41 +3,36 @@
 
 use layout::{count_at, entry_queue, queue_at, state_length};
 use refusals::Answer;
+use std::io;
 
 // Prints an answer and ends the line: accepted, or the refusal's number and place.
-pub fn answer(answer: Answer) {
+pub fn answer(rt: &impl Print, answer: Answer) -> io::Result<()> {
     match answer {
-        Answer::Accepted => {
-            io::write_all(1, b"accepted\n");
-        }
+        Answer::Accepted => println!(rt; "accepted"),
         Answer::Refused(refusal) => {
-            io::write_all(1, b"refused ");
-            io::print_decimal(1, refusals::number(refusal) as u64);
-            io::write_all(1, b" at ");
-            io::print_decimal(1, refusals::place(refusal) as u64);
-            io::write_all(1, b"\n");
+            let number = refusals::number(refusal);
+            let place = refusals::place(refusal);
+            println!(rt; "refused {number} at {place}")
         }
     }
 }
 
 // Prints a word and the numbers of a list.
-pub fn list(word: &[u8], list: &[u32]) {
-    io::write_all(1, word);
-    let mut i = 0;
-    while i < list.len() {
-        io::write_all(1, b" ");
-        io::print_decimal(1, list[i] as u64);
-        i += 1;
+pub fn list(rt: &impl Print, word: &str, list: &[u32]) -> io::Result<()> {
+    print!(rt; "{word}")?;
+    for number in list {
+        print!(rt; " {number}")?;
     }
+    Ok(())
 }
 
 // Prints a word, the vehicles in the cells and queues of a state of n cells, and ends the line; of more than 512 cells, or another length, nothing.
-pub fn vehicles(word: &[u8], n: usize, state: &[u32]) {
+pub fn vehicles(rt: &impl Print, word: &str, n: usize, state: &[u32]) -> io::Result<()> {
     if 512 < n {
-        return;
+        return Ok(());
     }
     if state.len() != state_length(n) {
-        return;
+        return Ok(());
     }
     let mut sum = entry_queue(state) as u64;
     let mut i = 0;
@@ -45,7 +40,5 @@ pub fn vehicles(word: &[u8], n: usize, state: &[u32]) {
         sum += (count_at(state, i) as u64) + (queue_at(n, state, i) as u64);
         i += 1;
     }
-    io::write_all(1, word);
-    io::print_decimal(1, sum);
-    io::write_all(1, b"\n");
+    println!(rt; "{word}{sum}")
 }
