@@ -5,7 +5,6 @@ use mathlib.Core.List.{List, [], ◌∷◌, ◌++◌, append_assoc}
 use lib.ListN.{length}
 use Rattle.refusals.specs.declared.Refusal.{Refusal}
 use Rattle.refusals.specs.declared.Answer.{Answer}
-use Rattle.refusals.specs.declared.Answer.TheVariants as Answer
 use Rattle.refusals.specs.Checks.{answer}
 use Rattle.layout.specs.Corridor.{Corridor}
 use Rattle.text_scans.specs.Scans.{begin}
@@ -14,7 +13,6 @@ use Rattle.period.specs.Sharing.{Sharing}
 use Rattle.program_steps.specs.Demand.{How, later, over, refused, Followed, follow, follow_end, follow_checks, if_accepted, follow_call, end_call, run_of, Leaves}
 use Rattle.program_steps.specs.Private.{Leads}
 use Rattle.program_steps.specs.declared.Run.{Run}
-use Rattle.program_steps.specs.declared.Run.TheVariants as Run
 use Rattle.program_steps.proofs.Sheets.{Within, follow_within}
 use Rattle.program_steps.proofs.Leading.{leads_here, next_chunk_leads}
 use Rattle.simulate.specs.Private.{LastCall, refuses, ends, unfits, Closes, Goes, GoesOn}

@@ -11,7 +11,6 @@ use Rattle.program_files.specs.declared.File.TheVariants.{Holds, BrokenAt, Lost}
 use Rattle.program_steps.specs.Steps.{pieces_on, read_file}
 use Rattle.simulate.specs.Private.{ChunkRead, ChunksRead, SomeRead, FileRead}
 use Rattle.simulate.specs.declared.Got.{Got}
-use Rattle.simulate.specs.declared.Got.TheVariants as Got
 
 module _ (fields : ℕ) where
   piece_after : (so : Reading) (list : List ℕ) (pieces : List (List ℕ)) (chunk : List ℕ)

@@ -12,12 +12,10 @@ use Rattle.period.specs.Sharing.{Sharing}
 use Rattle.program_files.specs.Files.{file_on}
 use Rattle.program_files.specs.declared.Reading.{Reading}
 use Rattle.program_files.specs.declared.File.{File}
-use Rattle.program_files.specs.declared.File.TheVariants as File
 use Rattle.program_steps.specs.Demand.{over, refused, Followed, silent, follow_checks, follow, follow_end}
 use Rattle.program_steps.specs.Steps.{chunks, read_file}
 use Rattle.program_steps.specs.Private.{Leads}
 use Rattle.simulate.specs.declared.Got.{Got}
-use Rattle.simulate.specs.declared.Got.TheVariants as Got
 use Rattle.simulate.specs.declared.Next.{Next}
 use Rattle.simulate.specs.declared.Next.TheVariants.{On, Over, Lost, Shut, Refused}
 

@@ -1,5 +1,4 @@
 use Rattle.std.proofs.Common.{rules}
-use Prim.Native.Nat.{◌-◌}
 use Rattle.accept_limits.proofs.Limits.{goes_on, ends}
 use Rattle.accept_limits.proofs.demand_limits.Goals as goal
 

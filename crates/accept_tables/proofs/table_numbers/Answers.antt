@@ -1,4 +1,3 @@
-use Prim.Native.Nat.{◌-◌}
 use mathlib.Core.Path.{sym, ◌∙◌}
 use Rattle.accept_tables.proofs.Numbers.{begins, two_passed, refused, goes_on, ends}
 use Rattle.accept_tables.proofs.table_numbers.Goals as goal

@@ -1,4 +1,3 @@
-use native.Mathlib.Omega.{arith}
 use Rattle.layout.specs.Corridor.{corridor_of}
 use Rattle.figwimple.proofs.Places.{row_placed}
 use Rattle.figwimple.proofs.Called.{fits_as}

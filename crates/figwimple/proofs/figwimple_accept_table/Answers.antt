@@ -1,4 +1,3 @@
-use native.Mathlib.Omega.{arith}
 use Rattle.figwimple.proofs.Places.{table_placed}
 use Rattle.figwimple.proofs.Called.{fits_as}
 use Rattle.figwimple.proofs.figwimple_accept_table.Goals as goal

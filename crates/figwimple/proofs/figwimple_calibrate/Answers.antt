@@ -1,5 +1,3 @@
-use native.Mathlib.Omega.{arith}
-use Rattle.calibrate_fit.specs.declared.Settings.{Settings}
 use Rattle.figwimple.specs.Calls.{settings_of}
 use Rattle.figwimple.proofs.Called.{refusal_placed}
 use Rattle.figwimple.proofs.figwimple_calibrate.Goals as goal

@@ -1,4 +1,3 @@
-use Prim.Native.Nat.{◌-◌}
 use mathlib.Core.Path.{refl, ap, ◌∙◌}
 use Rattle.layout.specs.Layout.{demand_length}
 use native.Mathlib.Omega.{arith}

@@ -1,7 +1,7 @@
-use Rattle.std.proofs.Common.{◌≡◌, ℕ, ◌+◌, ◌<◌, ◌≤◌, List, length, drop, refl, sym, ◌∙◌, arith, length-drop}
+use Rattle.std.proofs.Common.{sym, ◌∙◌, arith, length-drop}
 use borrow.Author.Rules.{part_to_end}
 use Rattle.program_steps.proofs.Sheets.{call_reads}
-use Rattle.program_steps.proofs.Leading.{leads_here, call_leads, leads_to_its_end}
+use Rattle.program_steps.proofs.Leading.{call_leads}
 use Rattle.simulate.proofs.Going.{call_closes}
 use Rattle.simulate.proofs.follow_chunk.Goals as goal
 

@@ -1,5 +1,5 @@
 use Rattle.std.proofs.Common.{refl, arith}
-use Rattle.simulate.proofs.Going.{stands_first, stands_then, stands_still, closes_then, unfits_then}
+use Rattle.simulate.proofs.Going.{stands_first, stands_then, closes_then, unfits_then}
 use Rattle.simulate.proofs.run_demand.Goals as goal
 
 pub loop-reads-init : goal.loop-reads-init

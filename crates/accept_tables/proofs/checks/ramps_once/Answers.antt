@@ -1,5 +1,5 @@
 use Rattle.std.proofs.Common.{rules, ◌≡◌, ℕ, ◌+◌, ◌*◌, ◌<◌, List, refl, ap, ◌∙◌, arith}
-use Rattle.whole.proofs.Search.{Searching, begins, goes_on, found, not_found}
+use Rattle.whole.proofs.Search.{begins, goes_on, found, not_found}
 use Rattle.layout.specs.declared.Row.{Row}
 use Rattle.layout.specs.Layout.{row_at, ramp_at}
 use Rattle.accept_tables.proofs.Ramps.{marks_down, mark_up, marks_tell, on_ramp_at, off_ramp_at}

@@ -1,7 +1,5 @@
 use Rattle.std.proofs.Common.{rules}
-use Prim.Native.Nat.{◌-◌}
 use Rattle.whole.proofs.Search.{found, not_found}
-use Rattle.layout.specs.Layout.{row_at}
 use Rattle.accept_tables.proofs.checks.rows_fit.Goals as goal
 
 pub returns-then-not-row_fits : goal.returns-then-not-row_fits

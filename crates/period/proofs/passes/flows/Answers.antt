@@ -1,11 +1,10 @@
-use Prim.Native.Nat.{suc, ◌+◌, ◌-◌}
-use mathlib.Core.Path.{◌≡◌, ap₂}
+use Prim.Native.Nat.{◌+◌}
+use mathlib.Core.Path.{ap₂}
 use native.Mathlib.Omega.{arith}
 use Rattle.layout.specs.Corridor.{corridor_of}
 use Rattle.period.specs.Sharing.{asymmetric}
 use Rattle.period.proofs.Facts.{some_cell, last_workable}
 use Rattle.period.proofs.Filling.{begins, entry_asks, goes_on, ends}
-use Rattle.period.proofs.passes.flows.Tie as tie
 use Rattle.period.proofs.passes.flows.Goals as goal
 
 pub overflow_sub-i : goal.overflow_sub-i

@@ -1,4 +1,3 @@
-use Prim.Native.Nat.{◌-◌}
 use Rattle.layout.specs.Corridor.{corridor_of}
 use Rattle.period.specs.Sharing.{asymmetric}
 use Rattle.period.proofs.Filling.{FlowsFrom}
