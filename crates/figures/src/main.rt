@@ -37,8 +37,8 @@ fn one_period(
 ) -> io::Result<()> {
     print!(rt; "{name}")?;
     let answer = period::period(table, state, demand, sheet);
-    show::list(rt, ": sheet", sheet)?;
-    show::list(rt, ", state", state)?;
+    show::list(rt, b": sheet", sheet)?;
+    show::list(rt, b", state", state)?;
     print!(rt; ", ")?;
     show::answer(rt, answer)
 }
@@ -55,7 +55,7 @@ fn one_cut(rt: &impl Print, n: u32) -> io::Result<()> {
         &THIRDS,
         &mut list,
     );
-    show::list(rt, ": state", &list)?;
+    show::list(rt, b": state", &list)?;
     print!(rt; ", ")?;
     show::answer(rt, answer)
 }
@@ -64,7 +64,7 @@ fn one_cut(rt: &impl Print, n: u32) -> io::Result<()> {
 fn first_periods(rt: &impl Print) -> io::Result<()> {
     let mut two_cells = [500u32, 8_000, 4_000, 0, 0, 0, 0];
     let mut two_sheet = [0u32; 9];
-    show::vehicles(rt, "printed, vehicles before: ", 2, &two_cells)?;
+    show::vehicles(rt, b"printed, vehicles before: ", 2, &two_cells)?;
     one_period(
         rt,
         "printed",
@@ -73,7 +73,7 @@ fn first_periods(rt: &impl Print) -> io::Result<()> {
         &[300, 0, 0, 0, 0],
         &mut two_sheet,
     )?;
-    show::vehicles(rt, "printed, vehicles after: ", 2, &two_cells)?;
+    show::vehicles(rt, b"printed, vehicles after: ", 2, &two_cells)?;
     let mut sheet = [0u32; 5];
     let mut split = [0u32, 1_000, 0, 0];
     one_period(

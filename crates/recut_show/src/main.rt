@@ -30,9 +30,9 @@ fn ten_periods(table: &[u32], state: &mut [u32], row: &[u32], sheet: &mut [u32])
 }
 
 // Prints the state of n cells, and the vehicles in its cells and queues.
-fn show_state(rt: &impl Print, word: &str, n: usize, state: &[u32]) -> io::Result<()> {
+fn show_state(rt: &impl Print, word: &[u8], n: usize, state: &[u32]) -> io::Result<()> {
     show::list(rt, word, state)?;
-    show::vehicles(rt, ", vehicles ", n, state)
+    show::vehicles(rt, b", vehicles ", n, state)
 }
 
 // Prints the ramp numbers along the road; 0 is no ramp.
@@ -79,34 +79,34 @@ fn join_again(rt: &impl Print, cut: &[u32]) -> io::Result<()> {
     let mut sheet = [0u32; 5];
     print!(rt; "joined again: ")?;
     show::answer(rt, join::join(&NEW, cut, &[3], &OLD, &mut joined))?;
-    show_state(rt, "sums: Q n q mode", 1, &joined)?;
+    show_state(rt, b"sums: Q n q mode", 1, &joined)?;
     show_ramps(rt, &OLD)?;
     ten_periods(&OLD, &mut joined, &[800, 600, 0], &mut sheet);
-    show_state(rt, "after ten more: Q n q mode", 1, &joined)
+    show_state(rt, b"after ten more: Q n q mode", 1, &joined)
 }
 
 fn main(rt: HostRuntime) -> io::Result<()> {
     let mut state = [0u32, 6_001, 300, 0];
     let mut sheet = [0u32; 5];
-    show::list(&rt, "old cell (v w F J on x c off b dropped):", &OLD)?;
+    show::list(&rt, b"old cell (v w F J on x c off b dropped):", &OLD)?;
     println!(rt; "")?;
     show_ramps(&rt, &OLD)?;
     ten_periods(&OLD, &mut state, &[800, 600, 0], &mut sheet);
-    show_state(&rt, "after ten periods: Q n q mode", 1, &state)?;
-    show::list(&rt, "sheet (entry f s r mode):", &sheet)?;
+    show_state(&rt, b"after ten periods: Q n q mode", 1, &state)?;
+    show::list(&rt, b"sheet (entry f s r mode):", &sheet)?;
     println!(rt; "")?;
     let mut cut = [0u32; 10];
-    show::list(&rt, "new cells:", &NEW)?;
+    show::list(&rt, b"new cells:", &NEW)?;
     println!(rt; "")?;
     show_ramps(&rt, &NEW)?;
     print!(rt; "cut into three: ")?;
     show::answer(&rt, recut::recut(&OLD, &state, &[3], &NEW, &mut cut))?;
     show_shares(&rt, state[1], 12_000, &NEW)?;
-    show_state(&rt, "shares: Q, n, q, modes", 3, &cut)?;
+    show_state(&rt, b"shares: Q, n, q, modes", 3, &cut)?;
     let mut new_sheet = [0u32; 13];
     ten_periods(&NEW, &mut cut, &[800, 600, 0, 0, 0, 0, 0], &mut new_sheet);
-    show_state(&rt, "after ten more: Q, n, q, modes", 3, &cut)?;
-    show::list(&rt, "sheet (entry, f, s, r, modes):", &new_sheet)?;
+    show_state(&rt, b"after ten more: Q, n, q, modes", 3, &cut)?;
+    show::list(&rt, b"sheet (entry, f, s, r, modes):", &new_sheet)?;
     println!(rt; "")?;
     join_again(&rt, &cut)
 }

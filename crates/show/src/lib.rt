@@ -18,8 +18,8 @@ pub fn answer(rt: &impl Print, answer: Answer) -> io::Result<()> {
 }
 
 // Prints a word and the numbers of a list.
-pub fn list(rt: &impl Print, word: &str, list: &[u32]) -> io::Result<()> {
-    print!(rt; "{word}")?;
+pub fn list(rt: &impl Print, word: &[u8], list: &[u32]) -> io::Result<()> {
+    rt.write_all(word)?;
     for number in list {
         print!(rt; " {number}")?;
     }
@@ -27,7 +27,7 @@ pub fn list(rt: &impl Print, word: &str, list: &[u32]) -> io::Result<()> {
 }
 
 // Prints a word, the vehicles in the cells and queues of a state of n cells, and ends the line; of more than 512 cells, or another length, nothing.
-pub fn vehicles(rt: &impl Print, word: &str, n: usize, state: &[u32]) -> io::Result<()> {
+pub fn vehicles(rt: &impl Print, word: &[u8], n: usize, state: &[u32]) -> io::Result<()> {
     if 512 < n {
         return Ok(());
     }
@@ -40,5 +40,6 @@ pub fn vehicles(rt: &impl Print, word: &str, n: usize, state: &[u32]) -> io::Res
         sum += (count_at(state, i) as u64) + (queue_at(n, state, i) as u64);
         i += 1;
     }
-    println!(rt; "{word}{sum}")
+    rt.write_all(word)?;
+    println!(rt; "{sum}")
 }
