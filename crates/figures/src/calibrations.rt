@@ -40,7 +40,7 @@ fn print_numbers(rt: &impl Print, numbers: RowNumbers) -> io::Result<()> {
 // the diagram, the row numbers and the answer.
 fn one_calibration(
     rt: &impl Print,
-    name: &str,
+    name: &[u8],
     flow: &[f64],
     cell: f64,
     end: usize,
@@ -53,7 +53,7 @@ fn one_calibration(
         start: 0,
         end,
     };
-    print!(rt; "{name}")?;
+    rt.write_all(name)?;
     let calibration = calibrate_fit::calibrate(flow, &[0.0625, 0.125, 0.375], settings);
     match calibration {
         Calibration::Calibrated(diagram, numbers) => {
@@ -68,12 +68,18 @@ fn one_calibration(
 pub(crate) fn calibrations(rt: &impl Print) -> io::Result<()> {
     let nan = 0.0 / 0.0;
     let flow = [960.0, 1_920.0, 960.0];
-    one_calibration(rt, "calibrated: ", &flow, 0.5, 2)?;
-    one_calibration(rt, "stretch past the samples: ", &flow, 0.5, 4)?;
-    one_calibration(rt, "cell length not a number: ", &flow, nan, 2)?;
+    one_calibration(rt, b"calibrated: ", &flow, 0.5, 2)?;
+    one_calibration(rt, b"stretch past the samples: ", &flow, 0.5, 4)?;
+    one_calibration(rt, b"cell length not a number: ", &flow, nan, 2)?;
     let broken = [960.0, nan, 960.0];
-    one_calibration(rt, "second flow not a number: ", &broken, 0.5, 2)?;
+    one_calibration(rt, b"second flow not a number: ", &broken, 0.5, 2)?;
     let still = [-0.0, -0.0, 960.0];
-    one_calibration(rt, "minus zero in the free stretch: ", &still, 0.5, 2)?;
-    one_calibration(rt, "a cell too short for its free speed: ", &flow, 0.125, 2)
+    one_calibration(rt, b"minus zero in the free stretch: ", &still, 0.5, 2)?;
+    one_calibration(
+        rt,
+        b"a cell too short for its free speed: ",
+        &flow,
+        0.125,
+        2,
+    )
 }

@@ -29,13 +29,13 @@ fn one_cell(rt: &impl Print, v: u32, w: u32, x: u32) -> io::Result<()> {
 // Runs one period and prints its sheet (entry flow, f, s, r, modes) and the state after it (Q, n, q, modes).
 fn one_period(
     rt: &impl Print,
-    name: &str,
+    name: &[u8],
     table: &[u32],
     state: &mut [u32],
     demand: &[u32],
     sheet: &mut [u32],
 ) -> io::Result<()> {
-    print!(rt; "{name}")?;
+    rt.write_all(name)?;
     let answer = period::period(table, state, demand, sheet);
     show::list(rt, b": sheet", sheet)?;
     show::list(rt, b", state", state)?;
@@ -67,7 +67,7 @@ fn first_periods(rt: &impl Print) -> io::Result<()> {
     show::vehicles(rt, b"printed, vehicles before: ", 2, &two_cells)?;
     one_period(
         rt,
-        "printed",
+        b"printed",
         &ROAD,
         &mut two_cells,
         &[300, 0, 0, 0, 0],
@@ -78,7 +78,7 @@ fn first_periods(rt: &impl Print) -> io::Result<()> {
     let mut split = [0u32, 1_000, 0, 0];
     one_period(
         rt,
-        "split",
+        b"split",
         &[
             32_768, 16_384, 1_000_000, 10_000, 0, 0, 0, 7, 16_384, 1_000_000,
         ],
@@ -89,7 +89,7 @@ fn first_periods(rt: &impl Print) -> io::Result<()> {
     let mut held = [0u32, 1_000, 0, 0];
     one_period(
         rt,
-        "split, F 100",
+        b"split, F 100",
         &[32_768, 16_384, 100, 10_000, 0, 0, 0, 7, 16_384, 100],
         &mut held,
         &[0, 0, 0],
@@ -103,7 +103,7 @@ fn other_periods(rt: &impl Print) -> io::Result<()> {
     let mut given = [0u32, 1_000, 0, 0];
     one_period(
         rt,
-        "given o 700",
+        b"given o 700",
         &[32_768, 16_384, 1_000_000, 10_000, 0, 0, 0, 7, 0, 1_000_000],
         &mut given,
         &[0, 0, 700],
@@ -112,7 +112,7 @@ fn other_periods(rt: &impl Print) -> io::Result<()> {
     let mut full = [0u32, 9_000, 2_000, 0];
     one_period(
         rt,
-        "full",
+        b"full",
         &[1, 49_152, 1, 10_000, 5, 16_384, 1_000_000, 0, 0, 1],
         &mut full,
         &[5_000, 0, 0],
@@ -121,7 +121,7 @@ fn other_periods(rt: &impl Print) -> io::Result<()> {
     let mut small = [0u32, 1, 0, 0];
     one_period(
         rt,
-        "small",
+        b"small",
         &[65_535, 16_384, 1_000, 10_000, 0, 0, 0, 0, 0, 1_000],
         &mut small,
         &[0, 0, 0],
@@ -130,7 +130,7 @@ fn other_periods(rt: &impl Print) -> io::Result<()> {
 }
 
 // One cell with a dropped capacity, after the given mode.
-fn dropping(rt: &impl Print, name: &str, mode: u32) -> io::Result<()> {
+fn dropping(rt: &impl Print, name: &[u8], mode: u32) -> io::Result<()> {
     let mut sheet = [0u32; 5];
     let mut state = [0u32, 3_900, 0, mode];
     one_period(
@@ -150,8 +150,8 @@ fn main(rt: HostRuntime) -> io::Result<()> {
     one_cell(&rt, 32_768, 49_152, 16_385)?;
     first_periods(&rt)?;
     other_periods(&rt)?;
-    dropping(&rt, "dropped 1900, mode 0", 0)?;
-    dropping(&rt, "dropped 1900, mode 1", 1)?;
+    dropping(&rt, b"dropped 1900, mode 0", 0)?;
+    dropping(&rt, b"dropped 1900, mode 1", 1)?;
     one_cut(&rt, 7)?;
     one_cut(&rt, 1)?;
     one_cut(&rt, 10)?;
