@@ -1,6 +1,6 @@
 /* Figwimple, a freeway cell simulator: the proved library, for C and for any language that calls C.
 
-   The archive is made by `rt staticlib figwimple`, for x86-64 Linux:
+   The archive is made by `bash tools/build figwimple`, for x86-64 Linux:
 
        cc examples/corridor.c -Iinclude target/staticlib/libfigwimple.a -o corridor
 

@@ -28,7 +28,7 @@ pub record RowFits (c : Corridor) (demand : List ℕ) : Type 0 where
   pub ons : (i : ℕ) → i < cells_of c → on_demand_at demand i ≤ with_ramp (row_of c i).on demand_limit
   pub offs : (i : ℕ) → i < cells_of c → off_demand_at (cells_of c) demand i ≤ given_off (row_of c i)
   pub entry_holds : entry_queue_of c + entry_demand demand ≤ queue_limit
-  pub queues_hold_lem : (i : ℕ) → i < cells_of c → queue_of c i + on_demand_at demand i ≤ queue_limit
+  pub queues_within : (i : ℕ) → i < cells_of c → queue_of c i + on_demand_at demand i ≤ queue_limit
 
 pub state_fits_lem : (c : Corridor) → answer (state_numbers c) ≡ Accepted → StateFits c
 state_fits_lem c e =
@@ -47,7 +47,7 @@ row_fits c demand e =
       ons = λ i h. leb-true _ _ (both_hold _ _ (ranges.0 (suc i) (omega arith))).0;
       offs = λ i h. leb-true _ _ (both_hold (leb (on_demand_at demand i) (with_ramp (row_of c i).on demand_limit)) _ (ranges.0 (suc i) (omega arith))).1;
       entry_holds = leb-true _ _ (holds.0 0 (omega arith));
-      queues_hold_lem = λ i h. leb-true _ _ (holds.0 (suc i) (omega arith));
+      queues_within = λ i h. leb-true _ _ (holds.0 (suc i) (omega arith));
     }
 
 -- two checks of the same places, walked over in one

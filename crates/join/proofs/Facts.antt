@@ -38,7 +38,7 @@ module _ {old : Corridor} {groups new : List ℕ} (known : JoinFits old groups n
   pub joinable : Joinable old (first_piece groups j) (piece_count groups j)
   joinable =
       record {
-        state_length_lem = known.change.state_length_lem;
+        state_len = known.change.state_len;
         some = (known.pieced.each j h).some;
         inside = group_inside;
         held = omega (arith, group_fits, (known.change.new_fits.rows j h).jam.most);

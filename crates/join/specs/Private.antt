@@ -7,7 +7,7 @@ use Rattle.join.specs.Join.{group_vehicles}
 
 -- a group lies in the road, is not empty, and its vehicles fit a number of the state
 pub record Joinable (old : Corridor) (first size : ℕ) : Type 0 where
-  pub state_length_lem : length old.state ≡ state_length (cells_of old)
+  pub state_len : length old.state ≡ state_length (cells_of old)
   pub some : 0 < size
   pub inside : first + size ≤ cells_of old
   pub held : group_vehicles old first size ≤ 4_294_967_295

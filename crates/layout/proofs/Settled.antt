@@ -3,168 +3,168 @@ use Prim.Native.Nat.{ℕ}
 use mathlib.Core.Path.{refl}
 use mathlib.Core.List.{List}
 use Rattle.whole.proofs.Settles.{Settles, SettlesLists, settled}
-use Rattle.layout.proofs.width.Kinds as width-kinds
-use Rattle.layout.proofs.width.Reads as width
-use Rattle.layout.proofs.cells.Kinds as cells-kinds
-use Rattle.layout.proofs.cells.Reads as cells
-use Rattle.layout.proofs.table_length.Kinds as table-length-kinds
-use Rattle.layout.proofs.table_length.Reads as table_length_lem
-use Rattle.layout.proofs.state_length.Kinds as state-length-kinds
-use Rattle.layout.proofs.state_length.Reads as state_length_lem
-use Rattle.layout.proofs.demand_length.Kinds as demand-length-kinds
-use Rattle.layout.proofs.demand_length.Reads as demand_length_lem
-use Rattle.layout.proofs.table_space.Kinds as table-space-kinds
-use Rattle.layout.proofs.table_space.Reads as table-space
-use Rattle.layout.proofs.state_space.Kinds as state-space-kinds
-use Rattle.layout.proofs.state_space.Reads as state-space
-use Rattle.layout.proofs.demand_space.Kinds as demand-space-kinds
-use Rattle.layout.proofs.demand_space.Reads as demand-space
-use Rattle.layout.proofs.row_at.Kinds as row-at-kinds
-use Rattle.layout.proofs.row_at.Reads as row_at
-use Rattle.layout.proofs.ramp_positions.Kinds as ramp-positions-kinds
-use Rattle.layout.proofs.ramp_positions.Reads as ramp-positions
-use Rattle.layout.proofs.ramp_cell.Kinds as ramp-cell-kinds
-use Rattle.layout.proofs.ramp_cell.Reads as ramp-cell
-use Rattle.layout.proofs.ramp_at.Kinds as ramp-at-kinds
-use Rattle.layout.proofs.ramp_at.Reads as ramp-at
-use Rattle.layout.proofs.entry_queue.Kinds as entry-queue-kinds
-use Rattle.layout.proofs.entry_queue.Reads as entry-queue
-use Rattle.layout.proofs.count_at.Kinds as count-at-kinds
-use Rattle.layout.proofs.count_at.Reads as count_at
-use Rattle.layout.proofs.queue_at.Kinds as queue-at-kinds
-use Rattle.layout.proofs.queue_at.Reads as queue-at
-use Rattle.layout.proofs.last_mode_at.Kinds as last-mode-at-kinds
-use Rattle.layout.proofs.last_mode_at.Reads as last-mode-at
-use Rattle.layout.proofs.cell_at.Kinds as cell-at-kinds
-use Rattle.layout.proofs.cell_at.Reads as Cell-at
-use Rattle.layout.proofs.entry_demand.Kinds as entry-demand-kinds
-use Rattle.layout.proofs.entry_demand.Reads as entry-demand
-use Rattle.layout.proofs.on_demand_at.Kinds as on-demand-at-kinds
-use Rattle.layout.proofs.on_demand_at.Reads as on-demand-at
-use Rattle.layout.proofs.off_demand_at.Kinds as off-demand-at-kinds
-use Rattle.layout.proofs.off_demand_at.Reads as off-demand-at
-use Rattle.layout.proofs.sheet.sheet_length.Kinds as sheet-length-kinds
-use Rattle.layout.proofs.sheet.sheet_length.Reads as sheet_length_lem
-use Rattle.layout.proofs.sheet.sheet_space.Kinds as sheet-space-kinds
-use Rattle.layout.proofs.sheet.sheet_space.Reads as sheet-space
-use Rattle.layout.proofs.sheet.flow_in.Kinds as flow-in-kinds
-use Rattle.layout.proofs.sheet.flow_in.Reads as flow-in
-use Rattle.layout.proofs.sheet.off_flow_in.Kinds as off-flow-in-kinds
-use Rattle.layout.proofs.sheet.off_flow_in.Reads as off-flow-in
-use Rattle.layout.proofs.sheet.on_flow_in.Kinds as on-flow-in-kinds
-use Rattle.layout.proofs.sheet.on_flow_in.Reads as on-flow-in
-use Rattle.layout.proofs.sheet.mode_in.Kinds as mode-in-kinds
-use Rattle.layout.proofs.sheet.mode_in.Reads as mode-in
-use Rattle.layout.proofs.put_cell.Kinds as put-cell-kinds
-use Rattle.layout.proofs.put_cell.Reads as put-cell
-use Rattle.layout.proofs.put_demands.Kinds as put-demands-kinds
-use Rattle.layout.proofs.put_demands.Reads as put-demands
-use Rattle.layout.proofs.put_entry.Kinds as put-entry-kinds
-use Rattle.layout.proofs.put_entry.Reads as put-entry
-use Rattle.layout.proofs.sheet.put_flow.Kinds as put-flow-kinds
-use Rattle.layout.proofs.sheet.put_flow.Reads as put-flow
-use Rattle.layout.proofs.sheet.put_off_flow.Kinds as put-off-flow-kinds
-use Rattle.layout.proofs.sheet.put_off_flow.Reads as put-off-flow
-use Rattle.layout.proofs.sheet.put_on_flow.Kinds as put-on-flow-kinds
-use Rattle.layout.proofs.sheet.put_on_flow.Reads as put-on-flow
-use Rattle.layout.proofs.sheet.put_mode.Kinds as put-mode-kinds
-use Rattle.layout.proofs.sheet.put_mode.Reads as put-mode
+use Rattle.layout.proofs.width.Kinds as width_kinds
+use Rattle.layout.proofs.width.Reads as width_reads
+use Rattle.layout.proofs.cells.Kinds as cells_kinds
+use Rattle.layout.proofs.cells.Reads as cells_reads
+use Rattle.layout.proofs.table_length.Kinds as table_length_kinds
+use Rattle.layout.proofs.table_length.Reads as table_length_reads
+use Rattle.layout.proofs.state_length.Kinds as state_length_kinds
+use Rattle.layout.proofs.state_length.Reads as state_length_reads
+use Rattle.layout.proofs.demand_length.Kinds as demand_length_kinds
+use Rattle.layout.proofs.demand_length.Reads as demand_length_reads
+use Rattle.layout.proofs.table_space.Kinds as table_space_kinds
+use Rattle.layout.proofs.table_space.Reads as table_space_reads
+use Rattle.layout.proofs.state_space.Kinds as state_space_kinds
+use Rattle.layout.proofs.state_space.Reads as state_space_reads
+use Rattle.layout.proofs.demand_space.Kinds as demand_space_kinds
+use Rattle.layout.proofs.demand_space.Reads as demand_space_reads
+use Rattle.layout.proofs.row_at.Kinds as row_at_kinds
+use Rattle.layout.proofs.row_at.Reads as row_at_reads
+use Rattle.layout.proofs.ramp_positions.Kinds as ramp_positions_kinds
+use Rattle.layout.proofs.ramp_positions.Reads as ramp_positions_reads
+use Rattle.layout.proofs.ramp_cell.Kinds as ramp_cell_kinds
+use Rattle.layout.proofs.ramp_cell.Reads as ramp_cell_reads
+use Rattle.layout.proofs.ramp_at.Kinds as ramp_at_kinds
+use Rattle.layout.proofs.ramp_at.Reads as ramp_at_reads
+use Rattle.layout.proofs.entry_queue.Kinds as entry_queue_kinds
+use Rattle.layout.proofs.entry_queue.Reads as entry_queue_reads
+use Rattle.layout.proofs.count_at.Kinds as count_at_kinds
+use Rattle.layout.proofs.count_at.Reads as count_at_reads
+use Rattle.layout.proofs.queue_at.Kinds as queue_at_kinds
+use Rattle.layout.proofs.queue_at.Reads as queue_at_reads
+use Rattle.layout.proofs.last_mode_at.Kinds as last_mode_at_kinds
+use Rattle.layout.proofs.last_mode_at.Reads as last_mode_at_reads
+use Rattle.layout.proofs.cell_at.Kinds as cell_at_kinds
+use Rattle.layout.proofs.cell_at.Reads as cell_at_reads
+use Rattle.layout.proofs.entry_demand.Kinds as entry_demand_kinds
+use Rattle.layout.proofs.entry_demand.Reads as entry_demand_reads
+use Rattle.layout.proofs.on_demand_at.Kinds as on_demand_at_kinds
+use Rattle.layout.proofs.on_demand_at.Reads as on_demand_at_reads
+use Rattle.layout.proofs.off_demand_at.Kinds as off_demand_at_kinds
+use Rattle.layout.proofs.off_demand_at.Reads as off_demand_at_reads
+use Rattle.layout.proofs.sheet.sheet_length.Kinds as sheet_length_kinds
+use Rattle.layout.proofs.sheet.sheet_length.Reads as sheet_length_reads
+use Rattle.layout.proofs.sheet.sheet_space.Kinds as sheet_space_kinds
+use Rattle.layout.proofs.sheet.sheet_space.Reads as sheet_space_reads
+use Rattle.layout.proofs.sheet.flow_in.Kinds as flow_in_kinds
+use Rattle.layout.proofs.sheet.flow_in.Reads as flow_in_reads
+use Rattle.layout.proofs.sheet.off_flow_in.Kinds as off_flow_in_kinds
+use Rattle.layout.proofs.sheet.off_flow_in.Reads as off_flow_in_reads
+use Rattle.layout.proofs.sheet.on_flow_in.Kinds as on_flow_in_kinds
+use Rattle.layout.proofs.sheet.on_flow_in.Reads as on_flow_in_reads
+use Rattle.layout.proofs.sheet.mode_in.Kinds as mode_in_kinds
+use Rattle.layout.proofs.sheet.mode_in.Reads as mode_in_reads
+use Rattle.layout.proofs.put_cell.Kinds as put_cell_kinds
+use Rattle.layout.proofs.put_cell.Reads as put_cell_reads
+use Rattle.layout.proofs.put_demands.Kinds as put_demands_kinds
+use Rattle.layout.proofs.put_demands.Reads as put_demands_reads
+use Rattle.layout.proofs.put_entry.Kinds as put_entry_kinds
+use Rattle.layout.proofs.put_entry.Reads as put_entry_reads
+use Rattle.layout.proofs.sheet.put_flow.Kinds as put_flow_kinds
+use Rattle.layout.proofs.sheet.put_flow.Reads as put_flow_reads
+use Rattle.layout.proofs.sheet.put_off_flow.Kinds as put_off_flow_kinds
+use Rattle.layout.proofs.sheet.put_off_flow.Reads as put_off_flow_reads
+use Rattle.layout.proofs.sheet.put_on_flow.Kinds as put_on_flow_kinds
+use Rattle.layout.proofs.sheet.put_on_flow.Reads as put_on_flow_reads
+use Rattle.layout.proofs.sheet.put_mode.Kinds as put_mode_kinds
+use Rattle.layout.proofs.sheet.put_mode.Reads as put_mode_reads
 
-pub width_settles : Settles _ width-kinds.ps width-kinds.r width.Learnt
+pub width_settles : Settles _ width_kinds.ps width_kinds.r width_reads.Learnt
 width_settles κs a y z e f = settled
 
-pub cells_settles : Settles _ cells-kinds.ps cells-kinds.r cells.Learnt
+pub cells_settles : Settles _ cells_kinds.ps cells_kinds.r cells_reads.Learnt
 cells_settles κs a y z e f = settled
 
-pub table_length_settles : Settles _ table-length-kinds.ps table-length-kinds.r table_length_lem.Learnt
+pub table_length_settles : Settles _ table_length_kinds.ps table_length_kinds.r table_length_reads.Learnt
 table_length_settles κs a y z e f = settled
 
-pub state_length_settles : Settles _ state-length-kinds.ps state-length-kinds.r state_length_lem.Learnt
+pub state_length_settles : Settles _ state_length_kinds.ps state_length_kinds.r state_length_reads.Learnt
 state_length_settles κs a y z e f = settled
 
-pub demand_length_settles : Settles _ demand-length-kinds.ps demand-length-kinds.r demand_length_lem.Learnt
+pub demand_length_settles : Settles _ demand_length_kinds.ps demand_length_kinds.r demand_length_reads.Learnt
 demand_length_settles κs a y z e f = settled
 
-pub table_space_settles : Settles _ table-space-kinds.ps table-space-kinds.r table-space.Learnt
+pub table_space_settles : Settles _ table_space_kinds.ps table_space_kinds.r table_space_reads.Learnt
 table_space_settles κs a y z e f p q = settled p.empty q.empty
 
-pub state_space_settles : Settles _ state-space-kinds.ps state-space-kinds.r state-space.Learnt
+pub state_space_settles : Settles _ state_space_kinds.ps state_space_kinds.r state_space_reads.Learnt
 state_space_settles κs a y z e f p q = settled p.empty q.empty
 
-pub demand_space_settles : Settles _ demand-space-kinds.ps demand-space-kinds.r demand-space.Learnt
+pub demand_space_settles : Settles _ demand_space_kinds.ps demand_space_kinds.r demand_space_reads.Learnt
 demand_space_settles κs a y z e f p q = settled p.empty q.empty
 
-pub row_at_settles : Settles _ row-at-kinds.ps row-at-kinds.r row_at.Learnt
+pub row_at_settles : Settles _ row_at_kinds.ps row_at_kinds.r row_at_reads.Learnt
 row_at_settles κs a y z e f = settled
 
-pub ramp_positions_settles : Settles _ ramp-positions-kinds.ps ramp-positions-kinds.r ramp-positions.Learnt
+pub ramp_positions_settles : Settles _ ramp_positions_kinds.ps ramp_positions_kinds.r ramp_positions_reads.Learnt
 ramp_positions_settles κs a y z e f = settled
 
-pub ramp_cell_settles : Settles _ ramp-cell-kinds.ps ramp-cell-kinds.r ramp-cell.Learnt
+pub ramp_cell_settles : Settles _ ramp_cell_kinds.ps ramp_cell_kinds.r ramp_cell_reads.Learnt
 ramp_cell_settles κs a y z e f = settled
 
-pub ramp_at_settles : Settles _ ramp-at-kinds.ps ramp-at-kinds.r ramp-at.Learnt
+pub ramp_at_settles : Settles _ ramp_at_kinds.ps ramp_at_kinds.r ramp_at_reads.Learnt
 ramp_at_settles κs a y z e f = settled
 
-pub entry_queue_settles : Settles _ entry-queue-kinds.ps entry-queue-kinds.r entry-queue.Learnt
+pub entry_queue_settles : Settles _ entry_queue_kinds.ps entry_queue_kinds.r entry_queue_reads.Learnt
 entry_queue_settles κs a y z e f = settled
 
-pub count_at_settles : Settles _ count-at-kinds.ps count-at-kinds.r count_at.Learnt
+pub count_at_settles : Settles _ count_at_kinds.ps count_at_kinds.r count_at_reads.Learnt
 count_at_settles κs a y z e f = settled
 
-pub queue_at_settles : Settles _ queue-at-kinds.ps queue-at-kinds.r queue-at.Learnt
+pub queue_at_settles : Settles _ queue_at_kinds.ps queue_at_kinds.r queue_at_reads.Learnt
 queue_at_settles κs a y z e f = settled
 
-pub last_mode_at_settles : Settles _ last-mode-at-kinds.ps last-mode-at-kinds.r last-mode-at.Learnt
+pub last_mode_at_settles : Settles _ last_mode_at_kinds.ps last_mode_at_kinds.r last_mode_at_reads.Learnt
 last_mode_at_settles κs a y z e f = settled
 
-pub cell_at_settles : Settles _ cell-at-kinds.ps cell-at-kinds.r Cell-at.Learnt
+pub cell_at_settles : Settles _ cell_at_kinds.ps cell_at_kinds.r cell_at_reads.Learnt
 cell_at_settles κs a y z e f = settled
 
-pub entry_demand_settles : Settles _ entry-demand-kinds.ps entry-demand-kinds.r entry-demand.Learnt
+pub entry_demand_settles : Settles _ entry_demand_kinds.ps entry_demand_kinds.r entry_demand_reads.Learnt
 entry_demand_settles κs a y z e f = settled
 
-pub on_demand_at_settles : Settles _ on-demand-at-kinds.ps on-demand-at-kinds.r on-demand-at.Learnt
+pub on_demand_at_settles : Settles _ on_demand_at_kinds.ps on_demand_at_kinds.r on_demand_at_reads.Learnt
 on_demand_at_settles κs a y z e f = settled
 
-pub off_demand_at_settles : Settles _ off-demand-at-kinds.ps off-demand-at-kinds.r off-demand-at.Learnt
+pub off_demand_at_settles : Settles _ off_demand_at_kinds.ps off_demand_at_kinds.r off_demand_at_reads.Learnt
 off_demand_at_settles κs a y z e f = settled
 
-pub sheet_length_settles : Settles _ sheet-length-kinds.ps sheet-length-kinds.r sheet_length_lem.Learnt
+pub sheet_length_settles : Settles _ sheet_length_kinds.ps sheet_length_kinds.r sheet_length_reads.Learnt
 sheet_length_settles κs a y z e f = settled
 
-pub sheet_space_settles : Settles _ sheet-space-kinds.ps sheet-space-kinds.r sheet-space.Learnt
+pub sheet_space_settles : Settles _ sheet_space_kinds.ps sheet_space_kinds.r sheet_space_reads.Learnt
 sheet_space_settles κs a y z e f p q = settled p.empty q.empty
 
-pub flow_in_settles : Settles _ flow-in-kinds.ps flow-in-kinds.r flow-in.Learnt
+pub flow_in_settles : Settles _ flow_in_kinds.ps flow_in_kinds.r flow_in_reads.Learnt
 flow_in_settles κs a y z e f = settled
 
-pub off_flow_in_settles : Settles _ off-flow-in-kinds.ps off-flow-in-kinds.r off-flow-in.Learnt
+pub off_flow_in_settles : Settles _ off_flow_in_kinds.ps off_flow_in_kinds.r off_flow_in_reads.Learnt
 off_flow_in_settles κs a y z e f = settled
 
-pub on_flow_in_settles : Settles _ on-flow-in-kinds.ps on-flow-in-kinds.r on-flow-in.Learnt
+pub on_flow_in_settles : Settles _ on_flow_in_kinds.ps on_flow_in_kinds.r on_flow_in_reads.Learnt
 on_flow_in_settles κs a y z e f = settled
 
-pub mode_in_settles : Settles _ mode-in-kinds.ps mode-in-kinds.r mode-in.Learnt
+pub mode_in_settles : Settles _ mode_in_kinds.ps mode_in_kinds.r mode_in_reads.Learnt
 mode_in_settles κs a y z e f = settled
 
-pub put_cell_settles : SettlesLists _ put-cell-kinds.ps put-cell-kinds.r (List ℕ) (λ κs e. e.0.now) put-cell.Learnt
+pub put_cell_settles : SettlesLists _ put_cell_kinds.ps put_cell_kinds.r (List ℕ) (λ κs e. e.0.now) put_cell_reads.Learnt
 put_cell_settles κs a y z e f p q = (refl, settled p q)
 
-pub put_demands_settles : SettlesLists _ put-demands-kinds.ps put-demands-kinds.r (List ℕ) (λ κs e. e.0.now) put-demands.Learnt
+pub put_demands_settles : SettlesLists _ put_demands_kinds.ps put_demands_kinds.r (List ℕ) (λ κs e. e.0.now) put_demands_reads.Learnt
 put_demands_settles κs a y z e f p q = (refl, settled p q)
 
-pub put_entry_settles : SettlesLists _ put-entry-kinds.ps put-entry-kinds.r (List ℕ) (λ κs e. e.0.now) put-entry.Learnt
+pub put_entry_settles : SettlesLists _ put_entry_kinds.ps put_entry_kinds.r (List ℕ) (λ κs e. e.0.now) put_entry_reads.Learnt
 put_entry_settles κs a y z e f p q = (refl, settled p q)
 
-pub put_flow_settles : SettlesLists _ put-flow-kinds.ps put-flow-kinds.r (List ℕ) (λ κs e. e.0.now) put-flow.Learnt
+pub put_flow_settles : SettlesLists _ put_flow_kinds.ps put_flow_kinds.r (List ℕ) (λ κs e. e.0.now) put_flow_reads.Learnt
 put_flow_settles κs a y z e f p q = (refl, settled p q)
 
-pub put_off_flow_settles : SettlesLists _ put-off-flow-kinds.ps put-off-flow-kinds.r (List ℕ) (λ κs e. e.0.now) put-off-flow.Learnt
+pub put_off_flow_settles : SettlesLists _ put_off_flow_kinds.ps put_off_flow_kinds.r (List ℕ) (λ κs e. e.0.now) put_off_flow_reads.Learnt
 put_off_flow_settles κs a y z e f p q = (refl, settled p q)
 
-pub put_on_flow_settles : SettlesLists _ put-on-flow-kinds.ps put-on-flow-kinds.r (List ℕ) (λ κs e. e.0.now) put-on-flow.Learnt
+pub put_on_flow_settles : SettlesLists _ put_on_flow_kinds.ps put_on_flow_kinds.r (List ℕ) (λ κs e. e.0.now) put_on_flow_reads.Learnt
 put_on_flow_settles κs a y z e f p q = (refl, settled p q)
 
-pub put_mode_settles : SettlesLists _ put-mode-kinds.ps put-mode-kinds.r (List ℕ) (λ κs e. e.0.now) put-mode.Learnt
+pub put_mode_settles : SettlesLists _ put_mode_kinds.ps put_mode_kinds.r (List ℕ) (λ κs e. e.0.now) put_mode_reads.Learnt
 put_mode_settles κs a y z e f p q = (refl, settled p q)

@@ -44,7 +44,7 @@ module _ (way : Sharing) (fair : Fair way) (c : Corridor) (demand : List ℕ) (a
 
   queue_stays_within : (i : ℕ) → i < cells_of c → (none : Bool) → queue_of c i ≤ pick none 0 queue_limit → on_demand_at demand i ≤ pick none 0 demand_limit → queue_of after i ≤ pick none 0 queue_limit
   queue_stays_within i h true q e = omega (arith, queue_balance way fair c demand t s d i h)
-  queue_stays_within i h false q e = omega (arith, queue_balance way fair c demand t s d i h, d.queues_hold_lem i h)
+  queue_stays_within i h false q e = omega (arith, queue_balance way fair c demand t s d i h, d.queues_within i h)
 
   stays_in_range : Passes (cells_of c + 1) (state_in_range after).test
   stays_in_range zero h =

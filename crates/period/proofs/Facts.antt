@@ -18,8 +18,8 @@ use Rattle.period.specs.Private.{Workable}
 use Rattle.layout.specs.Corridor.{Corridor, cells_of, row_of}
 
 pub record Facts (c : Corridor) (demand : List ℕ) : Type 0 where
-  pub state_length_lem : length c.state ≡ state_length (cells_of c)
-  pub demand_length_lem : length demand ≡ demand_length (cells_of c)
+  pub state_len : length c.state ≡ state_length (cells_of c)
+  pub demand_len : length demand ≡ demand_length (cells_of c)
   pub t : TableFits c.table
   pub s : StateFits c
   pub d : RowFits c demand
@@ -30,8 +30,8 @@ facts c demand e =
     let numbers = accepted_both (state_numbers c) (demand_numbers c demand) checks.1 in
     let lengths = row_lengths c demand (checks.0 0 (omega arith)) in
     record {
-      state_length_lem = lengths.0;
-      demand_length_lem = lengths.1;
+      state_len = lengths.0;
+      demand_len = lengths.1;
       t = table_fits c.table (accepted_both (table_numbers c.table) (state_in_range c ∷ []) numbers.0).0;
       s = state_fits_lem c numbers.0;
       d = row_fits c demand numbers.1;
@@ -50,8 +50,8 @@ workable {c} {i = i} known all h =
     record {
       all = all;
       inside = omega arith;
-      state_length_lem = rw all known.state_length_lem;
-      demand_length_lem = rw all known.demand_length_lem;
+      state_len = rw all known.state_len;
+      demand_len = rw all known.demand_len;
       v = row.v.most;
       b = omega (arith, row.b.most, with_ramp_at_most (row_of c i).off 65_535);
       count = (known.s.cells i h).count;

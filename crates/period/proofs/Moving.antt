@@ -28,23 +28,23 @@ module _ (way : Sharing) (fair : Fair way) (c : Corridor) (demand : List ℕ) (k
       let on = of_on way c demand i h in
       record {
         inside = h;
-        state_length_lem = known.state_length_lem;
-        demand_length_lem = known.demand_length_lem;
-        sheet_length_lem = of_length way c demand;
+        state_len = known.state_len;
+        demand_len = known.demand_len;
+        sheet_len = of_length way c demand;
         comes = omega (arith, flow, on, what_comes_fits way fair c demand t s d i h, (s.cells i h).count, (t.rows i h).jam.most);
         leaves =
             rw (add-one, of_flow way c demand (suc i) (omega arith), of_off way c demand i h)
             (what_leaves_is_in_the_cell way fair c demand t s d i h);
-        waits = d.queues_hold_lem i h;
+        waits = d.queues_within i h;
         enters = rw on (ramp_of_queue way fair c demand t s d i);
       }
 
   is_updatable : Updatable (cells_of c) c.state demand sheet
   is_updatable =
       record {
-        state_length_lem = known.state_length_lem;
-        demand_length_lem = known.demand_length_lem;
-        sheet_length_lem = of_length way c demand;
+        state_len = known.state_len;
+        demand_len = known.demand_len;
+        sheet_len = of_length way c demand;
         each = cell_updatable;
         waits = known.d.entry_holds;
         enters = rw (of_flow way c demand 0 (omega arith)) (flow_of_offer way fair c demand 0);

@@ -33,8 +33,8 @@ module _ (n : ℕ) (old demand sheet : List ℕ) where
       record {
         asked = asked;
         reaches = omega arith;
-        laid = laying_none n old (state_columns after) (λ k below meant. omega arith) (omega (arith, asked.state_length_lem));
-        kept = as_it_stands n old asked.state_length_lem;
+        laid = laying_none n old (state_columns after) (λ k below meant. omega arith) (omega (arith, asked.state_len));
+        kept = as_it_stands n old asked.state_len;
         entry = refl;
       }
 
@@ -57,9 +57,9 @@ module _ (n : ℕ) (old demand sheet : List ℕ) where
         let asked = so.asked.each (i - 1) inside in
         record {
           inside = inside;
-          state_length_lem = omega (arith, so.kept.len);
-          demand_length_lem = so.asked.demand_length_lem;
-          sheet_length_lem = so.asked.sheet_length_lem;
+          state_len = omega (arith, so.kept.len);
+          demand_len = so.asked.demand_len;
+          sheet_len = so.asked.sheet_len;
           comes = rw same_count asked.comes;
           leaves = rw same_count asked.leaves;
           waits = rw same_queue asked.waits;

@@ -30,14 +30,14 @@ module _ (way : Sharing) (c : Corridor) (demand : List ℕ) (n : ℕ) (sheet : L
 pub record Readable (n : ℕ) (c : Corridor) (i : ℕ) : Type 0 where
   pub all : n ≡ cells_of c
   pub inside : i < n
-  pub state_length_lem : length c.state ≡ state_length n
+  pub state_len : length c.state ≡ state_length n
 
 -- what the work on the cell of index i, one of n, asks of the corridor and the demand row
 pub record Workable (n : ℕ) (c : Corridor) (demand : List ℕ) (i : ℕ) : Type 0 where
   pub all : n ≡ cells_of c
   pub inside : i < n
-  pub state_length_lem : length c.state ≡ state_length n
-  pub demand_length_lem : length demand ≡ demand_length n
+  pub state_len : length c.state ≡ state_length n
+  pub demand_len : length demand ≡ demand_length n
   pub v : (row_of c i).v ≤ 65_536
   pub b : (row_of c i).b < 65_536
   pub count : count_of c i ≤ (row_of c i).jam
@@ -45,9 +45,9 @@ pub record Workable (n : ℕ) (c : Corridor) (demand : List ℕ) (i : ℕ) : Typ
 -- what bringing the cell of index i up to date asks of the lists: nothing that is added or taken away wraps
 pub record CellUpdatable (n : ℕ) (state demand sheet : List ℕ) (i : ℕ) : Type 0 where
   pub inside : i < n
-  pub state_length_lem : length state ≡ state_length n
-  pub demand_length_lem : length demand ≡ demand_length n
-  pub sheet_length_lem : length sheet ≡ sheet_length n
+  pub state_len : length state ≡ state_length n
+  pub demand_len : length demand ≡ demand_length n
+  pub sheet_len : length sheet ≡ sheet_length n
   pub comes : count_at state i + flow_in sheet i + on_flow_in n sheet i ≤ 4_000_000
   pub leaves : flow_in sheet (i + 1) + off_flow_in n sheet i ≤ count_at state i
   pub waits : queue_at n state i + on_demand_at demand i ≤ 1_000_000_000
@@ -55,9 +55,9 @@ pub record CellUpdatable (n : ℕ) (state demand sheet : List ℕ) (i : ℕ) : T
 
 -- the same of all cells and of the entry
 pub record Updatable (n : ℕ) (state demand sheet : List ℕ) : Type 0 where
-  pub state_length_lem : length state ≡ state_length n
-  pub demand_length_lem : length demand ≡ demand_length n
-  pub sheet_length_lem : length sheet ≡ sheet_length n
+  pub state_len : length state ≡ state_length n
+  pub demand_len : length demand ≡ demand_length n
+  pub sheet_len : length sheet ≡ sheet_length n
   pub each : (i : ℕ) → i < n → CellUpdatable n state demand sheet i
   pub waits : entry_queue state + entry_demand demand ≤ 1_000_000_000
   pub enters : flow_in sheet 0 ≤ entry_queue state + entry_demand demand

@@ -66,7 +66,7 @@ pub lines_from : {c : Corridor} {row sheet : List ℕ} → Ready c row sheet →
 lines_from {c} ready same state sheet =
     record {
       most = omega (arith, same, cells_most c ready.fits);
-      state_fits_lem = omega (arith, same, state, state_length_lem c ready.fits);
+      state_len = omega (arith, same, state, state_length_lem c ready.fits);
       sheet_fits = omega (arith, same, sheet, ready.sheet_fits);
     }
 

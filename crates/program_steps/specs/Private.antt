@@ -35,7 +35,7 @@ pub record EntryFits (state sheet out : List ℕ) (at : ℕ) : Type 0 where
 -- the state and the sheet that the lines of n cells come from
 pub record LinesFrom (n : ℕ) (state sheet : List ℕ) : Type 0 where
   pub most : n ≤ MOST
-  pub state_fits_lem : length state ≡ state_length n
+  pub state_len : length state ≡ state_length n
   pub sheet_fits : length sheet ≡ sheet_length n
 
 -- the line of the cell of index i, after the digits of a period

@@ -42,7 +42,7 @@ module _ (old : Corridor) (pieces new : List ℕ) (known : CutFits old pieces ne
       let first = first_piece pieces piece.cell in
       let all = piece_count pieces piece.cell in
       record {
-        state_length_lem = known.change.state_length_lem;
+        state_len = known.change.state_len;
         counts = known.counts;
         inside = the_piece.cell_is;
         few = few;

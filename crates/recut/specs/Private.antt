@@ -20,7 +20,7 @@ filled old pieces piece jam = record { cell = piece_cell old pieces piece jam; r
 
 -- what the work on a piece of that jam count asks: it lies in its cell, which holds no more than its J
 pub record Cuttable (old : Corridor) (pieces : List ℕ) (piece : Piece) (jam : ℕ) : Type 0 where
-  pub state_length_lem : length old.state ≡ state_length (cells_of old)
+  pub state_len : length old.state ≡ state_length (cells_of old)
   pub counts : length pieces ≡ cells_of old
   pub inside : piece.cell < cells_of old
   pub few : piece.number < MOST

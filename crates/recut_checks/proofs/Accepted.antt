@@ -28,7 +28,7 @@ use Rattle.recut_checks.proofs.Pieced.{Pieced, pieced}
 -- the lengths of the lists under the two tables
 pub record ListsFit (old : Corridor) (counts : List ℕ) (many : ℕ) (new list : List ℕ) : Type 0 where
   pub fit : change_lists_fit old counts many new list ≡ true
-  pub state_length_lem : length old.state ≡ state_length (cells_of old)
+  pub state_len : length old.state ≡ state_length (cells_of old)
   pub counted : length counts ≡ many
   pub list_length : length list ≡ state_length (cells new)
 
@@ -37,7 +37,7 @@ lists_fit_lem old counts many new list fit =
     let state = eqb (length old.state) (state_length (cells_of old)) in
     let last = both_hold (state && eqb (length counts) many) _ fit in
     let both = both_hold state _ last.0 in
-    record { fit = fit; state_length_lem = eqb-true _ _ both.0; counted = eqb-true _ _ both.1; list_length = eqb-true _ _ last.1 }
+    record { fit = fit; state_len = eqb-true _ _ both.0; counted = eqb-true _ _ both.1; list_length = eqb-true _ _ last.1 }
 
 abbrev PassesAll : Check → Type 0
 PassesAll check = Passes check.places check.test
@@ -62,10 +62,10 @@ pub record ChangeFits (old : Corridor) (new : List ℕ) : Type 0 where
   pub old_length : table_length_fits old.table ≡ true
   pub new_length : table_length_fits new ≡ true
   pub new_numbers : answer (table_numbers new) ≡ Accepted
-  pub state_numbers_lem : answer (state_numbers old) ≡ Accepted
+  pub state_passes : answer (state_numbers old) ≡ Accepted
   pub old_cells : Between 1 MOST (cells_of old)
   pub new_cells : Between 1 MOST (cells new)
-  pub state_length_lem : length old.state ≡ state_length (cells_of old)
+  pub state_len : length old.state ≡ state_length (cells_of old)
   pub state_fits_it : StateFits old
   pub old_fits : TableFits old.table
   pub new_fits : TableFits new
@@ -90,10 +90,10 @@ module _ (old : Corridor) (counts : List ℕ) (many : ℕ) (new list : List ℕ)
         old_length = lengths_hold.0;
         new_length = lengths_hold.1;
         new_numbers = tables.1;
-        state_numbers_lem = state;
+        state_passes = state;
         old_cells = cells_fit old.table lengths_hold.0;
         new_cells = cells_fit new lengths_hold.1;
-        state_length_lem = lengths_hold.2.state_length_lem;
+        state_len = lengths_hold.2.state_len;
         state_fits_it = state_fits_lem old state;
         old_fits = table_fits old.table tables.0;
         new_fits = table_fits new tables.1;

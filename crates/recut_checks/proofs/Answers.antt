@@ -37,7 +37,7 @@ module _ {old : Corridor} {counts : List ℕ} {many : ℕ} {new list : List ℕ}
   pub state_decides : {a : Answer} → Accepted ≡ answer (both_tables_checks old.table new) → a ≡ answer (state_alone_checks old) → a ≡ answer (change_checks old counts many new list)
   state_decides tables e =
       let table = (both_hold (table_length_fits old.table) (table_length_fits new) ((accepted_passes _ _ (sym tables)).0 0 (omega arith))).0 in
-      let alone = lengths_passed (state_in_range old ∷ []) (ap₂ (λ a b. a && b) table (eq-eqb _ _ lists.state_length_lem)) in
+      let alone = lengths_passed (state_in_range old ∷ []) (ap₂ (λ a b. a && b) table (eq-eqb _ _ lists.state_len)) in
       accepted_goes_on (both_tables_checks old.table new) (state_in_range old ∷ []) tables (e ∙ alone) ∙ checks_are
 
 -- what is asked of the pieces comes last: it decides where the change is accepted; n is the number of whole cells, as the code has it

@@ -76,10 +76,10 @@ module _ (old : Corridor) (pieces new : List ℕ) (known : CutFits old pieces ne
                 old_length = change.new_length;
                 new_length = own.0 0 (omega arith);
                 new_numbers = own.1;
-                state_numbers_lem = state;
+                state_passes = state;
                 old_cells = change.new_cells;
                 new_cells = cells_fit table (own.0 0 (omega arith));
-                state_length_lem = new_length old pieces new known;
+                state_len = new_length old pieces new known;
                 state_fits_it = state_fits_lem cut state;
                 old_fits = change.new_fits;
                 new_fits = table_fits table own.1;
@@ -145,7 +145,7 @@ module _ (old : Corridor) (pieces new : List ℕ) (known : CutFits old pieces ne
   gives_back : (table : List ℕ) → cells table ≡ cells_of old → joined_state (new_corridor old pieces new) pieces table ≡ old.state
   gives_back table many =
       sym
-      (is_joined cut pieces table old.state (rw many known.change.state_length_lem) (sym (new_entry old pieces new known))
+      (is_joined cut pieces table old.state (rw many known.change.state_len) (sym (new_entry old pieces new known))
       (λ i h. sym (all_its_vehicles i (rw many at h)))
       (λ i h. rw many (sym (its_queue i (rw many at h))))
       (λ i h. rw many (sym (its_mode i (rw many at h)))))

@@ -59,11 +59,11 @@ pub what_fits_is_accepted : (give : ℕ → Refusal) (old : Corridor) (pieces ne
     → length list ≡ state_length (cells new) → answer (with_pieces give old pieces new list whole parts) ≡ Accepted
 what_fits_is_accepted give old pieces new list whole parts known len =
     let change = known.change in
-    let state = accepted_both (table_numbers old.table) (state_in_range old ∷ []) change.state_numbers_lem in
+    let state = accepted_both (table_numbers old.table) (state_in_range old ∷ []) change.state_passes in
     let tables = both_tables_lem old.table new state.0 change.new_numbers in
     both_accepted (change_checks old pieces (cells whole) new list) (pieces_number give whole pieces parts ∷ [])
     (lengths_passed (both_tables old.table new ++ (state_in_range old ∷ []))
-    (rw (change.old_length, change.new_length, eq-eqb _ _ change.state_length_lem, eq-eqb _ _ known.counts, eq-eqb _ _ len))
+    (rw (change.old_length, change.new_length, eq-eqb _ _ change.state_len, eq-eqb _ _ known.counts, eq-eqb _ _ len))
     ∙ both_accepted (both_tables old.table new) (state_in_range old ∷ []) tables state.1)
     (passes_accepted (pieces_number give whole pieces parts) Accepted (pieced_holds whole pieces parts known.pieced) refl)
 

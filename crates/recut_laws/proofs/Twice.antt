@@ -212,10 +212,10 @@ module _ (old : Corridor) (first middle second new : List ℕ) (known : JoinFits
               old_length = known.change.old_length;
               new_length = known'.change.new_length;
               new_numbers = known'.change.new_numbers;
-              state_numbers_lem = known.change.state_numbers_lem;
+              state_passes = known.change.state_passes;
               old_cells = known.change.old_cells;
               new_cells = known'.change.new_cells;
-              state_length_lem = known.change.state_length_lem;
+              state_len = known.change.state_len;
               state_fits_it = known.change.state_fits_it;
               old_fits = known.change.old_fits;
               new_fits = known'.change.new_fits;

@@ -7,32 +7,32 @@ use contract.Lifetimes.{Lfts}
 use denote.Triple.Clauses.{AtExit}
 use borrow.Fn.Kinds.{ParamKind, ResultKind, Out, Dens, ended_of, res_t}
 use Rattle.whole.proofs.Settles.{Settles, settled}
-use Rattle.text_digits.proofs.write_decimal.Kinds as write-decimal-kinds
-use Rattle.text_digits.proofs.write_decimal.Reads as write-decimal
-use Rattle.text_digits.proofs.write_rest.Kinds as write-rest-kinds
-use Rattle.text_digits.proofs.write_rest.Reads as write-rest
-use Rattle.text_digits.proofs.write_record.Kinds as write-record-kinds
-use Rattle.text_digits.proofs.write_record.Reads as write-record
+use Rattle.text_digits.proofs.write_decimal.Kinds as write_decimal_kinds
+use Rattle.text_digits.proofs.write_decimal.Reads as write_decimal_reads
+use Rattle.text_digits.proofs.write_rest.Kinds as write_rest_kinds
+use Rattle.text_digits.proofs.write_rest.Reads as write_rest_reads
+use Rattle.text_digits.proofs.write_record.Kinds as write_record_kinds
+use Rattle.text_digits.proofs.write_record.Reads as write_record_reads
 
 -- two later contents of a lent list that a promise allows, for the same arguments, are equal
 abbrev pub SettlesLater : (n : ℕ) (ps : List (ParamKind n)) (r : ResultKind n) → Out n ps r → ((κs : Lfts n) → AtExit (ended_of n ps r) κs → List ℕ) → Type 0
 SettlesLater n ps r Promise later =
     (κs : Lfts n) (a : Dens κs ps) (y z : (res_t r κs).Denot) (e f : AtExit (ended_of n ps r) κs) → Promise κs a y e → Promise κs a z f → later κs e ≡ later κs f
 
-pub write_decimal_settles : Settles _ write-decimal-kinds.ps write-decimal-kinds.r write-decimal.Learnt
+pub write_decimal_settles : Settles _ write_decimal_kinds.ps write_decimal_kinds.r write_decimal_reads.Learnt
 write_decimal_settles κs a y z e f p q = settled p.0 q.0
 
-pub write_decimal_settles_buffer : SettlesLater _ write-decimal-kinds.ps write-decimal-kinds.r write-decimal.Learnt (λ κs e. e.1.0.now)
+pub write_decimal_settles_buffer : SettlesLater _ write_decimal_kinds.ps write_decimal_kinds.r write_decimal_reads.Learnt (λ κs e. e.1.0.now)
 write_decimal_settles_buffer κs a y z e f p q = settled p.1 q.1
 
-pub write_record_settles : Settles _ write-record-kinds.ps write-record-kinds.r write-record.Learnt
+pub write_record_settles : Settles _ write_record_kinds.ps write_record_kinds.r write_record_reads.Learnt
 write_record_settles κs a y z e f p q = settled p.0 q.0
 
-pub write_record_settles_buffer : SettlesLater _ write-record-kinds.ps write-record-kinds.r write-record.Learnt (λ κs e. e.1.0.now)
+pub write_record_settles_buffer : SettlesLater _ write_record_kinds.ps write_record_kinds.r write_record_reads.Learnt (λ κs e. e.1.0.now)
 write_record_settles_buffer κs a y z e f p q = settled p.1 q.1
 
-pub write_rest_settles : Settles _ write-rest-kinds.ps write-rest-kinds.r write-rest.Learnt
+pub write_rest_settles : Settles _ write_rest_kinds.ps write_rest_kinds.r write_rest_reads.Learnt
 write_rest_settles κs a y z e f p q = settled p.0 q.0
 
-pub write_rest_settles_buffer : SettlesLater _ write-rest-kinds.ps write-rest-kinds.r write-rest.Learnt (λ κs e. e.1.1.1.1.1.1.0.now)
+pub write_rest_settles_buffer : SettlesLater _ write_rest_kinds.ps write_rest_kinds.r write_rest_reads.Learnt (λ κs e. e.1.1.1.1.1.1.0.now)
 write_rest_settles_buffer κs a y z e f p q = settled p.1.0 q.1.0

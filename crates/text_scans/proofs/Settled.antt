@@ -1,27 +1,27 @@
 -- The promise of each public function settles its result. Assumes nothing.
 use Rattle.whole.proofs.Settles.{Settles, settled}
-use Rattle.text_scans.proofs.begin.Kinds as begin-kinds
-use Rattle.text_scans.proofs.begin.Reads as begin
-use Rattle.text_scans.proofs.feed.Kinds as feed-kinds
-use Rattle.text_scans.proofs.feed.Reads as feed
-use Rattle.text_scans.proofs.untouched.Kinds as untouched-kinds
-use Rattle.text_scans.proofs.untouched.Reads as untouched
-use Rattle.text_scans.proofs.field.is_digit.Kinds as is-digit-kinds
-use Rattle.text_scans.proofs.field.is_digit.Reads as is_digit
-use Rattle.text_scans.proofs.field.followed.Kinds as followed-kinds
-use Rattle.text_scans.proofs.field.followed.Reads as followed
+use Rattle.text_scans.proofs.begin.Kinds as begin_kinds
+use Rattle.text_scans.proofs.begin.Reads as begin_reads
+use Rattle.text_scans.proofs.feed.Kinds as feed_kinds
+use Rattle.text_scans.proofs.feed.Reads as feed_reads
+use Rattle.text_scans.proofs.untouched.Kinds as untouched_kinds
+use Rattle.text_scans.proofs.untouched.Reads as untouched_reads
+use Rattle.text_scans.proofs.field.is_digit.Kinds as is_digit_kinds
+use Rattle.text_scans.proofs.field.is_digit.Reads as is_digit_reads
+use Rattle.text_scans.proofs.field.followed.Kinds as followed_kinds
+use Rattle.text_scans.proofs.field.followed.Reads as followed_reads
 
-pub begin_settles : Settles _ begin-kinds.ps begin-kinds.r begin.Learnt
+pub begin_settles : Settles _ begin_kinds.ps begin_kinds.r begin_reads.Learnt
 begin_settles κs a y z e f = settled
 
-pub feed_settles : Settles _ feed-kinds.ps feed-kinds.r feed.Learnt
+pub feed_settles : Settles _ feed_kinds.ps feed_kinds.r feed_reads.Learnt
 feed_settles κs a y z e f = settled
 
-pub untouched_settles : Settles _ untouched-kinds.ps untouched-kinds.r untouched.Learnt
+pub untouched_settles : Settles _ untouched_kinds.ps untouched_kinds.r untouched_reads.Learnt
 untouched_settles κs a y z e f = settled
 
-pub is_digit_settles : Settles _ is-digit-kinds.ps is-digit-kinds.r is_digit.Learnt
+pub is_digit_settles : Settles _ is_digit_kinds.ps is_digit_kinds.r is_digit_reads.Learnt
 is_digit_settles κs a y z e f = settled
 
-pub followed_settles : Settles _ followed-kinds.ps followed-kinds.r followed.Learnt
+pub followed_settles : Settles _ followed_kinds.ps followed_kinds.r followed_reads.Learnt
 followed_settles κs a y z e f = settled

@@ -20,7 +20,7 @@ group_vehicles-requires c = work c.loop-j.invariant (search rules) refl
 pub queue_at-requires : goal.queue_at-requires
 queue_at-requires c =
     let asked = work c.loop-j.invariant (search rules) refl in
-    omega (arith, asked.state_length_lem, asked.some, asked.inside, c.cells-many.ensures)
+    omega (arith, asked.state_len, asked.some, asked.inside, c.cells-many.ensures)
 
 pub overflow_add-first : goal.overflow_add-first
 overflow_add-first c =
@@ -31,7 +31,7 @@ overflow_add-first c =
 pub last_mode_at-requires : goal.last_mode_at-requires
 last_mode_at-requires c =
     let asked = work c.loop-j.invariant (search rules) refl in
-    omega (arith, asked.state_length_lem, asked.some, asked.inside, c.cells-many.ensures)
+    omega (arith, asked.state_len, asked.some, asked.inside, c.cells-many.ensures)
 
 pub overflow_add-first-in-loop-j : goal.overflow_add-first-in-loop-j
 overflow_add-first-in-loop-j c =

@@ -8,7 +8,7 @@ use Rattle.simulate.proofs.follow_chunk.Goals as goal
 pub overflow_add-from : goal.overflow_add-from
 overflow_add-from g c =
     let read = call_reads _ _ _ _ _ _ _ _ _ (sym c.in-On.is ∙ c.follow-run.ensures.answered) (rw (part_to_end c.args.chunk.now c.loop-from.from) (omega (arith, length-drop c.loop-from.from c.args.chunk.now))) in
-    omega (arith, read.1, length-drop c.loop-from.from c.args.chunk.now, c.type_inv.chunk)
+    omega (arith, read.1, length-drop c.loop-from.from c.args.chunk.now)
 
 pub loop-from-smaller : goal.loop-from-smaller
 loop-from-smaller g c =
