@@ -38,7 +38,7 @@ fn usable(sample: Sample) -> bool
 }
 
 // What a pass over the samples finds: the place of number 9, past the last where it does not apply, and then capacity.
-#[derive(Drop)]
+#[derive(Clone, Copy)]
 pub(crate) struct Seen {
     pub(crate) at: usize,
     pub(crate) capacity: f64,

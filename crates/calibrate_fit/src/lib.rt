@@ -53,13 +53,13 @@ pub struct Sums {
     pub bottom: f64,
 }
 
-#[derive(Drop)]
+#[derive(Clone, Copy)]
 pub enum FitAnswer {
     Fitted(Diagram),
     NotFitted(Refusal),
 }
 
-#[derive(Drop)]
+#[derive(Clone, Copy)]
 pub enum Calibration {
     Calibrated(Diagram, RowNumbers),
     NotCalibrated(Refusal),

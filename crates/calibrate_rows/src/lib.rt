@@ -30,7 +30,7 @@ pub struct RowValues {
 }
 
 // v, w, F and J of a cell row.
-#[derive(Drop)]
+#[derive(Clone, Copy)]
 pub struct RowNumbers {
     pub v: u32,
     pub w: u32,
@@ -38,7 +38,7 @@ pub struct RowNumbers {
     pub jam: u32,
 }
 
-#[derive(Drop)]
+#[derive(Clone, Copy)]
 pub enum RowAnswer {
     Made(RowNumbers),
     NotMade(Refusal),
