@@ -1,5 +1,5 @@
-// The library for callers in C, Rust and Python: each function answers one word, count × 2^40 + number × 2^32 + place, with
-// number 0 for accepted, and further results go to lent lists. Every function takes every input.
+// The library's face, which `figwimple_c` exports to C, Rust and Python: each function answers one word, count × 2^40 + number × 2^32 +
+// place, with number 0 for accepted, and further results go to lent lists. Every function takes every input.
 #![tactic(auto)]
 
 ghost use Rattle.std.specs.Prelude.{◌<◌, ◌≡◌, length};
@@ -34,50 +34,35 @@ fn word(count: usize, answered: Answer) -> u64
 }
 
 // Whether a table is accepted: numbers 1 to 4.
-#[unsafe(no_mangle)]
-pub extern "C" fn figwimple_accept_table(table: &[u32]) -> u64
+pub fn figwimple_accept_table(table: &[u32]) -> u64
     ensures { result ≡ word_of 0 (answer (table_checks table.now)) }
 {
     word(0, accept_tables::accept_table(table))
 }
 
 // Whether a state is accepted under a table: numbers 1 to 5.
-#[unsafe(no_mangle)]
-pub extern "C" fn figwimple_accept_state(table: &[u32], state: &[u32]) -> u64
+pub fn figwimple_accept_state(table: &[u32], state: &[u32]) -> u64
     ensures { result ≡ word_of 0 (answer (state_checks (corridor_of table.now state.now))) }
 {
     word(0, accept_rows::accept_state(table, state))
 }
 
 // Whether a demand row is accepted under a table and a state: numbers 1 to 7.
-#[unsafe(no_mangle)]
-pub extern "C" fn figwimple_accept_row(table: &[u32], state: &[u32], demand: &[u32]) -> u64
+pub fn figwimple_accept_row(table: &[u32], state: &[u32], demand: &[u32]) -> u64
     ensures { result ≡ word_of 0 (answer (row_checks (corridor_of table.now state.now) demand.now)) }
 {
     word(0, accept_rows::accept_row(table, state, demand))
 }
 
 // One period: numbers 1 to 7.
-#[unsafe(no_mangle)]
-pub extern "C" fn figwimple_period(
-    table: &[u32],
-    state: &mut [u32],
-    demand: &[u32],
-    sheet: &mut [u32],
-) -> u64
+pub fn figwimple_period(table: &[u32], state: &mut [u32], demand: &[u32], sheet: &mut [u32]) -> u64
     ensures { PeriodCalled asymmetric (corridor_of table.now state.old) demand.now sheet.old result state.new sheet.new }
 {
     word(0, period::period(table, state, demand, sheet))
 }
 
 // A run of demand rows end to end: numbers 1 to 5, then 6 and 7 at each row. It counts the periods completed, refused or not.
-#[unsafe(no_mangle)]
-pub extern "C" fn figwimple_run(
-    table: &[u32],
-    state: &mut [u32],
-    demand: &[u32],
-    sheet: &mut [u32],
-) -> u64
+pub fn figwimple_run(table: &[u32], state: &mut [u32], demand: &[u32], sheet: &mut [u32]) -> u64
     ensures { RunCalled asymmetric (corridor_of table.now state.old) demand.now sheet.old result state.new sheet.new }
 {
     let ran = period_run::run(table, state, demand, sheet);
@@ -86,8 +71,7 @@ pub extern "C" fn figwimple_run(
 }
 
 // The re-cut of a table and a state into a new table: numbers 1 to 5 and 8. The new state goes to a list of its own.
-#[unsafe(no_mangle)]
-pub extern "C" fn figwimple_recut(
+pub fn figwimple_recut(
     old: &[u32],
     state: &[u32],
     pieces: &[u32],
@@ -100,8 +84,7 @@ pub extern "C" fn figwimple_recut(
 }
 
 // The join of a table and a state into a new table: numbers 1 to 5 and 14. The new state goes to a list of its own.
-#[unsafe(no_mangle)]
-pub extern "C" fn figwimple_join(
+pub fn figwimple_join(
     old: &[u32],
     state: &[u32],
     groups: &[u32],
@@ -144,8 +127,7 @@ fn results_fit(diagram: &[f64], row: &[u32]) -> bool
 }
 
 // From samples and settings to the diagram's five doubles and the row's four numbers: numbers 1, 9, 10 and 11.
-#[unsafe(no_mangle)]
-pub extern "C" fn figwimple_calibrate(
+pub fn figwimple_calibrate(
     flow: &[f64],
     occupancy: &[f64],
     g: f64,
