@@ -7,10 +7,12 @@ use native.Mathlib.Omega.{arith}
 use borrow.Author.Tests.{lt-ltb, le-ltb, ltb-false, not-true, not-false}
 use lib.Dec.{ltb}
 use Rattle.whole.specs.Search.{pick}
-use Rattle.whole.proofs.Search.{Passes, all_pass, none_fails}
+use Rattle.whole.proofs.Search.{Passes, first_is, all_pass, none_fails}
 use Rattle.refusals.specs.declared.Refusal.{Refusal}
 use Rattle.refusals.specs.declared.Refusal.TheVariants.{Length}
 use Rattle.std.specs.Prelude.{Ok, Err}
+use Rattle.std.specs.Result.{IsErrAnd}
+use Rattle.std.proofs.lemmas.Result.{err_from_is_err_and}
 use Rattle.refusals.specs.Checks.{Answer, accepted, Check, least, or_later, answer, lengths}
 
 pub refused_is_not_accepted : (refusal : Refusal) → Err refusal ≡ accepted → ⊥
@@ -110,3 +112,16 @@ both_accepted first later e f = sym (accepted_goes_on first later (sym e) (sym f
 -- lengths that fit leave the answer to the checks after them
 pub lengths_passed : (checks : List Check) {fit : Bool} → fit ≡ true → answer (lengths fit ∷ checks) ≡ answer checks
 lengths_passed checks e = sym (lengths_fit_lem {r = true} (sym e) refl refl)
+
+-- The same of a loop over a check's places, in turn, that leaves at the first that fails: what stops it, and what it ends with.
+
+pub check_fails : (check : Check) {at : ℕ} → at < check.places → Passes at check.test → check.test at ≡ false → Err (check.refusal at) ≡ answer (check ∷ [])
+check_fails check {at} h before fails =
+    stops check accepted (first_is check.places check.test at (record { reaches = omega arith; before = before; fails = λ _. fails })) h
+
+pub check_passes : (check : Check) → Passes check.places check.test → accepted ≡ answer (check ∷ [])
+check_passes check all = passes check refl (none_fails_reaches check all) refl
+
+-- what a `?` passes on is the refusal that it was given
+pub passed_on : {a : Answer} {refusal : Refusal} → IsErrAnd a (λ given. given ≡ refusal) → a ≡ Err refusal
+passed_on {a} given = let told = err_from_is_err_and a given in told.1 ∙ ap Err told.2

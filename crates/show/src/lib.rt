@@ -14,8 +14,8 @@ pub fn answer(rt: &impl Print, answer: Result<(), Refusal>) -> io::Result<()> {
 }
 
 // Prints a word and the numbers of a list.
-pub fn list(rt: &impl Print, word: &str, list: &[u32]) -> io::Result<()> {
-    print!(rt; "{word}")?;
+pub fn list(rt: &impl Print, word: &[u8], list: &[u32]) -> io::Result<()> {
+    rt.write_all(word)?;
     for number in list {
         print!(rt; " {number}")?;
     }
@@ -24,7 +24,7 @@ pub fn list(rt: &impl Print, word: &str, list: &[u32]) -> io::Result<()> {
 
 // Prints a word, the vehicles in the cells and queues of a state of n cells, and ends the line; of more than 512 cells, or another length,
 // nothing.
-pub fn vehicles(rt: &impl Print, word: &str, n: usize, state: &[u32]) -> io::Result<()> {
+pub fn vehicles(rt: &impl Print, word: &[u8], n: usize, state: &[u32]) -> io::Result<()> {
     if 512 < n || state.len() != state_length(n) {
         return Ok(());
     }
@@ -32,5 +32,6 @@ pub fn vehicles(rt: &impl Print, word: &str, n: usize, state: &[u32]) -> io::Res
     for i in 0..n {
         sum += u64::from(count_at(state, i)) + u64::from(queue_at(n, state, i));
     }
-    println!(rt; "{word}{sum}")
+    rt.write_all(word)?;
+    println!(rt; "{sum}")
 }
