@@ -1,9 +1,16 @@
-use Rattle.std.proofs.Common.{rules}
-use Rattle.whole.proofs.Search.{found, not_found}
+use Rattle.std.proofs.Common.{rules, tests}
+use Rattle.whole.proofs.Search.{found_first}
+use Rattle.refusals.proofs.Answers.{first_refused, none_refused}
+use Rattle.layout.specs.Corridor.{corridor_of}
+use Rattle.accept_rows.specs.Acceptance.{state_in_range}
 use Rattle.accept_rows.proofs.checks.state_in_range.Goals as goal
 
-pub returns-then-not-state_fits_at : goal.returns-then-not-state_fits_at
-returns-then-not-state_fits_at c = found c.loop-i.invariant (search rules) c.state_fits_at.ensures c.if-not-state_fits_at.true-raw
+pub returns-in-Some : goal.returns-in-Some
+returns-in-Some c =
+    first_refused (state_in_range (corridor_of c.args.table.now c.args.state.now))
+    (found_first c.find.new.self (search rules) c.in-Some.ensures.ran (λ x b q k. search (rules, tests)))
 
-pub returns : goal.returns
-returns c = not_found c.loop-i.invariant (search rules)
+pub returns-in-None : goal.returns-in-None
+returns-in-None c =
+    none_refused (state_in_range (corridor_of c.args.table.now c.args.state.now))
+    (found_first c.find.new.self (search rules) c.in-None.ensures.ran (λ x b q k. search (rules, tests)))
