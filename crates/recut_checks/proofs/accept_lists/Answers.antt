@@ -1,5 +1,5 @@
 use mathlib.Core.Path.{sym, ◌∙◌}
-use Rattle.refusals.proofs.Answers.{passed_on}
+use Rattle.refusals.proofs.Answers.{handed_on}
 use Rattle.layout.specs.Corridor.{corridor_of}
 use Rattle.recut_checks.proofs.Accepted.{lists_fit_lem}
 use Rattle.recut_checks.proofs.Answers.{lists_refused, tables_refused, state_decides}
@@ -14,7 +14,7 @@ pub returns-in_err-accept_both : goal.returns-in_err-accept_both
 returns-in_err-accept_both c =
     let a = c.args in
     let lists = lists_fit_lem (corridor_of a.old.now a.state.now) a.counts.now a.many a.new.now a.list.now (sym c.change_lists_fit.ensures ∙ c.if-not-change_lists_fit.false) in
-    passed_on c.from_residual.ensures.1 ∙ tables_refused lists c.in_err-accept_both.ensures
+    handed_on c.from_residual.ensures (tables_refused lists c.in_err-accept_both.ensures)
 
 pub returns : goal.returns
 returns c =
