@@ -1,4 +1,4 @@
--- What a test in the code tells of the test in the definitions, and what the answers of the row maker tell. Assumes nothing.
+-- What a test in the code tells of the test in the definitions, and what an answer tells. Assumes nothing.
 use Rattle.std.proofs.Common.{◌≡◌, ℕ, ◌+◌, Bool, true, false, not, sym, refl, ◌∙◌, lit<}
 use Rattle.std.specs.Prelude.{Ok, Err, [], ◌∷◌, slice_index_or}
 use borrow.Author.Tests.{not-true, not-false}
@@ -8,9 +8,8 @@ use Rattle.refusals.specs.declared.Refusal.{Refusal}
 use Rattle.refusals.specs.declared.Refusal.TheVariants.{RowValue}
 use Rattle.refusals.specs.Checks.{Answer, Check, accepted, answer, or_later}
 use Rattle.calibrate_rows.specs.declared.RowValues.{RowValues}
-use Rattle.calibrate_rows.specs.declared.RowNumbers.{RowNumbers}
-use Rattle.calibrate_rows.specs.RowNumbers.{row_numbers, value_fits}
-use Rattle.calibrate_rows.specs.Rows.{values_fit, row_as}
+use Rattle.calibrate_rows.specs.RowNumbers.{value_fits}
+use Rattle.calibrate_rows.specs.Rows.{values_fit, refused_or}
 use Rattle.calibrate_rows.specs.Private.{EachFits}
 
 -- r is what the code found of a test, and `if !r` went one way or the other
@@ -59,11 +58,11 @@ values_fit_lem values e =
     let fit = (accepted_passes (values_fit values) accepted e).0 in
     record { v = fit 0 (lit< tt); w = fit 1 (lit< tt); capacity = fit 2 (lit< tt); jam = fit 3 (lit< tt) }
 
--- what an answer of the row maker tells
-pub not_made_by : (a : Answer) (values : RowValues) {refusal : Refusal} → Err refusal ≡ row_as a values → Err refusal ≡ a
-not_made_by (Ok done) values e = cc
-not_made_by (Err r) values e = cc
+-- what an answer tells that has something to say
+pub refused_by : {A : Type 0} (a : Answer) (asked : A) {refusal : Refusal} → Err refusal ≡ refused_or a asked → Err refusal ≡ a
+refused_by (Ok done) asked e = cc
+refused_by (Err r) asked e = cc
 
-pub made_by : (a : Answer) (values : RowValues) {numbers : RowNumbers} → Ok numbers ≡ row_as a values → (accepted ≡ a) × (numbers ≡ row_numbers values)
-made_by (Ok done) values e = (refl, cc)
-made_by (Err r) values e = (cc, cc)
+pub asked_by : {A : Type 0} (a : Answer) (asked : A) {given : A} → Ok given ≡ refused_or a asked → (accepted ≡ a) × (given ≡ asked)
+asked_by (Ok done) asked e = (refl, cc)
+asked_by (Err r) asked e = (cc, cc)

@@ -43,10 +43,13 @@ values_fit values =
 abbrev pub making_checks : Diagram → ℕ → Float → List Check
 making_checks diagram period cell = setting_usable period cell ∷ values_fit (row_values diagram period cell) ∷ []
 
--- the refusal, or the row where there is none
+-- the refusal, or what was asked for where there is none
+abbrev pub refused_or : {A : Type 0} → Answer → A → Result A Refusal
+refused_or (Ok done) asked = Ok asked
+refused_or (Err refusal) asked = Err refusal
+
 abbrev pub row_as : Answer → RowValues → Result RowNumbers Refusal
-row_as (Ok done) values = Ok (row_numbers values)
-row_as (Err refusal) values = Err refusal
+row_as a values = refused_or a (row_numbers values)
 
 abbrev pub row_made : Diagram → ℕ → Float → Result RowNumbers Refusal
 row_made diagram period cell = row_as (answer (making_checks diagram period cell)) (row_values diagram period cell)
