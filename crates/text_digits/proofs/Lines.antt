@@ -2,19 +2,18 @@
 use Prim.Native.Nat.{ℕ, zero, suc, ◌+◌, ◌-◌, ◌*◌, ◌^◌, ◌≤◌, ◌<◌, zero-le}
 use mathlib.Core.Path.{◌≡◌, refl, ap, sym, ◌∙◌}
 use mathlib.Core.List.{List, [], ◌∷◌, ◌++◌, append_assoc}
-use mathlib.Core.Bool.{Bool, true, false}
+use mathlib.Core.Bool.{true, false}
 use native.Mathlib.Numerals.{add-one}
 use native.Mathlib.Omega.{arith}
-use borrow.Author.Tests.{le-leb, lt-leb, leb-true, ne_eqb}
+use borrow.Author.Tests.{le-leb, lt-leb, ne_eqb}
 use lib.Dec.{leb, eqb}
 use lib.ListN.{length, get_or, drop, length-append, drop_of_length-le}
 use lib.Seq.{sets, drop-cons}
 use Rattle.whole.specs.Search.{pick}
 use Rattle.text_digits.specs.Lines.{CR, LF, COMMA, digits_of, further_text, record_text, rest_text, line_text}
-use Rattle.text_digits.specs.Writes.{no_room, written, after_writing, rest_written, after_rest}
+use Rattle.text_digits.specs.Writes.{rest_written, after_rest}
 use Rattle.text_digits.specs.Private.{separated}
-use Rattle.std.specs.Prelude.{Result, Ok}
-use Rattle.refusals.specs.declared.Refusal.{Refusal}
+use Rattle.std.specs.Prelude.{Ok}
 use Rattle.whole.proofs.Tests.{same_test}
 use Rattle.text_digits.proofs.Stores.{rest_of, stores_after}
 use Rattle.text_digits.proofs.Digits.{at_most_20}
@@ -200,34 +199,7 @@ pub at_least_2 : (numbers : List ℕ) → 2 ≤ length (line_text numbers)
 unfolding line_text
 at_least_2 numbers = omega (arith, length-append (record_text numbers) (CR ∷ LF ∷ []))
 
--- bytes, by the test of whether they fit a buffer
-module _ (buffer bytes : List ℕ) (at : ℕ) where
-  pub text_fits : {fits : Bool} → fits ≡ leb (at + length bytes) (length buffer) → fits ≡ true → at + length bytes ≤ length buffer
-  text_fits told has = leb-true (at + length bytes) (length buffer) (sym told ∙ has)
-
-  pub text_put : {fits : Bool} → fits ≡ leb (at + length bytes) (length buffer) → fits ≡ true → {to : ℕ} {later : List ℕ} → to ≡ at + length bytes
-      → later ≡ sets buffer at bytes → (Ok to ≡ written buffer at bytes) × (later ≡ after_writing buffer at bytes)
-  unfolding written after_writing
-  text_put told has e s = rw (sym told ∙ has) (ap Ok e, s)
-
-  pub no_text : {fits : Bool} → fits ≡ leb (at + length bytes) (length buffer) → fits ≡ false → (no_room ≡ written buffer at bytes) × (buffer ≡ after_writing buffer at bytes)
-  unfolding written after_writing
-  no_text told short = rw (sym told ∙ short) (refl, refl)
-
--- the rest of a line, by the room that a buffer has
-pub no_rest : (buffer bytes : List ℕ) (at : ℕ) → length buffer < at + 128
-    → (no_room ≡ rest_written buffer at bytes) × ((buffer ≡ after_rest buffer at bytes) × ((end : ℕ) → no_room ≡ Ok end → end ≤ at + 128))
-unfolding rest_written after_rest
-no_rest buffer bytes at short =
-    (rw (lt-leb (at + 128) (length buffer) short), (rw (lt-leb (at + 128) (length buffer) short), λ end e. absurd (let z : ◌≡◌ {A = ℕ} 0 1 = cc in omega arith)))
-
-pub rest_put : (buffer bytes : List ℕ) (at : ℕ) {to : ℕ} {later : List ℕ} → at + 128 ≤ length buffer → to ≡ at + length bytes → to ≤ at + 128 → later ≡ sets buffer at bytes
-    → (Ok to ≡ rest_written buffer at bytes) × ((later ≡ after_rest buffer at bytes) × ((end : ℕ) → ◌≡◌ {A = Result ℕ Refusal} (Ok to) (Ok end) → end ≤ at + 128))
-unfolding rest_written after_rest
-rest_put buffer bytes at {to} has e most s =
-    (rw (le-leb (at + 128) (length buffer) has) (ap Ok e), (rw (le-leb (at + 128) (length buffer) has) s, λ end same. let there : to ≡ end = cc in omega (arith, most, there)))
-
--- and where a caller's buffer has it
+-- the rest of a line, where a buffer has room for it
 pub rest_fits : (buffer bytes : List ℕ) (at : ℕ) → at + 128 ≤ length buffer → (rest_written buffer at bytes ≡ Ok (at + length bytes)) × (after_rest buffer at bytes ≡ sets buffer at bytes)
 unfolding rest_written after_rest
 rest_fits buffer bytes at has = (rw (le-leb (at + 128) (length buffer) has), rw (le-leb (at + 128) (length buffer) has))

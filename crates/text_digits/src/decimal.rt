@@ -169,6 +169,7 @@ fn put_few(number: u64, buffer: &mut [u8], at: usize) -> usize
 }
 
 // Writes a number after a comma.
+#[tactic(auto, using(crate::proofs::Digits::at_most_20))]
 fn put_further(number: u64, buffer: &mut [u8], at: usize) -> usize
     requires { at + 21 ≤ length buffer.old }
     ensures answer { result ≡ at + length (COMMA ∷ digits_of number) }

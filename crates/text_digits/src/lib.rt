@@ -12,6 +12,7 @@ use refusals::Refusal;
 
 // Writes the decimal digits of a number into a buffer from a position on, most significant first. The answer is the
 // position after the last byte written; where the bytes do not fit, a wrong length, none is written.
+#[tactic(auto, unfolding(crate::specs::Writes::written, crate::specs::Writes::after_writing))]
 pub fn write_decimal(number: u64, buffer: &mut [u8], at: usize) -> Result<usize, Refusal>
     ensures answer { result ≡ written buffer.old at (digits_of number) }
     ensures stores { buffer.new ≡ after_writing buffer.old at (digits_of number) }
@@ -24,6 +25,7 @@ pub fn write_decimal(number: u64, buffer: &mut [u8], at: usize) -> Result<usize,
 }
 
 // Writes a record of numbers with its end into a buffer from a position on.
+#[tactic(auto, unfolding(crate::specs::Writes::written, crate::specs::Writes::after_writing))]
 pub fn write_record(numbers: &[u64], buffer: &mut [u8], at: usize) -> Result<usize, Refusal>
     ensures answer { result ≡ written buffer.old at (line_text numbers.now) }
     ensures stores { buffer.new ≡ after_writing buffer.old at (line_text numbers.now) }
@@ -37,6 +39,7 @@ pub fn write_record(numbers: &[u64], buffer: &mut [u8], at: usize) -> Result<usi
 
 // Writes the rest of a record of seven numbers after its first, six numbers, each after a comma, and the end, where a buffer has
 // room for the longest.
+#[tactic(auto, unfolding(crate::specs::Writes::rest_written, crate::specs::Writes::after_rest))]
 pub fn write_rest(rest: [u64; 6], buffer: &mut [u8], at: usize) -> Result<usize, Refusal>
     ensures answer { result ≡ rest_written buffer.old at (rest_text rest) }
     ensures stores { buffer.new ≡ after_rest buffer.old at (rest_text rest) }
