@@ -14,8 +14,7 @@ use Rattle.text_scans.specs.Scans.{LONGEST, is_digit, at_start, longer, in_numbe
 use Rattle.text_records.specs.Reads.{read_from, read_on, row_from, row_on}
 use Rattle.text_records.specs.Private.{Comes, DigitsRead, FieldRead, AfterFirst, FromStart, FieldsRead}
 use Rattle.text_records.specs.declared.Digits.{Digits}
-use Rattle.text_records.specs.declared.Begun.{Begun}
-use Rattle.text_records.specs.declared.Begun.TheVariants.{Whole, Other}
+use Rattle.std.specs.Prelude.{Option, Some, None}
 use Rattle.text_scans.specs.declared.Scan.{Scan}
 use Rattle.text_scans.specs.declared.Scan.TheVariants.{Start, Number}
 use Rattle.text_scans.specs.declared.Step.{Step}
@@ -131,18 +130,18 @@ module _ (chunk : List ℕ) (from stop : ℕ) (within : stop ≤ length chunk) (
             (comma_read chunk (from + 1) field (bytes + 1) (omega arith) (omega arith) fields (get_or chunk from 0 - DIGIT) row is more));
       }
 
-  pub first_digit_then : (r : Begun) → from < stop → AfterFirst chunk (from + 1) stop (get_or chunk from 0 - DIGIT) r → FromStart chunk from stop r
-  first_digit_then (Whole number next) h rest =
+  pub first_digit_then : (r : Option Digits) → from < stop → AfterFirst chunk (from + 1) stop (get_or chunk from 0 - DIGIT) r → FromStart chunk from stop r
+  first_digit_then (Some whole) h rest =
       record {
         further = omega (arith, rest.further);
         ends = rest.ends;
         reads = λ fields field bytes row more short.
-            let one : bytes + (next - from) ≡ bytes + 1 + (next - (from + 1)) = omega (arith, rest.further) in
+            let one : bytes + (whole.next - from) ≡ bytes + 1 + (whole.next - (from + 1)) = omega (arith, rest.further) in
             rw one
             (then (first_digit_read chunk from field bytes (omega arith) (omega (arith, rest.further)) fields row digit.0 digit.1)
             (rest.reads fields field (bytes + 1) row more (omega (arith, rest.further))));
       }
-  first_digit_then Other h rest = rest
+  first_digit_then None h rest = rest
 
 -- Fields one after the other.
 
