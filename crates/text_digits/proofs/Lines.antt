@@ -125,23 +125,18 @@ module _ {numbers buffer₀ : List ℕ} {at : ℕ} {buffer : List ℕ} {next i :
 pub record Resting (numbers buffer₀ : List ℕ) (at : ℕ) (buffer : List ℕ) (next i : ℕ) : Type 0 where
   pub stores : sets buffer next (rest_text (drop i numbers)) ≡ sets buffer₀ at (rest_text numbers)
   pub ends : next + length (rest_text (drop i numbers)) ≡ at + length (rest_text numbers)
-  pub same : length buffer ≡ length buffer₀
   pub short : next ≤ at + 21 * i
-
-pub rest_begins : (numbers buffer : List ℕ) (at : ℕ) → Resting numbers buffer at buffer at 0
-rest_begins numbers buffer at = record { stores = refl; ends = refl; same = refl; short = omega arith }
 
 module _ {numbers buffer₀ : List ℕ} {at : ℕ} {buffer : List ℕ} {next i : ℕ} where
   pub further_put : Resting numbers buffer₀ at buffer next i → i < length numbers → {later : List ℕ} {after : ℕ} → after ≡ next + length (COMMA ∷ digits_of (get_or numbers i 0))
-      → after ≤ next + 21 → later ≡ sets buffer next (COMMA ∷ digits_of (get_or numbers i 0)) → length later ≡ length buffer → Resting numbers buffer₀ at later after (i + 1)
-  further_put here h e most s same =
+      → after ≤ next + 21 → later ≡ sets buffer next (COMMA ∷ digits_of (get_or numbers i 0)) → Resting numbers buffer₀ at later after (i + 1)
+  further_put here h e most s =
       let n = get_or numbers i 0 in
       let rest = drop (i + 1) numbers in
       let left : rest_text (drop i numbers) ≡ (COMMA ∷ digits_of n) ++ rest_text rest = rw (rest_of numbers i h) (line_goes_on n rest) in
       record {
         stores = rw (s, e) (sym (stores_after buffer next (COMMA ∷ digits_of n) (rest_text rest)) ∙ (rw left at here.stores));
         ends = rw e (omega (arith, length-append (COMMA ∷ digits_of n) (rest_text rest), rw left at here.ends));
-        same = same ∙ here.same;
         short = omega (arith, here.short, most);
       }
 
