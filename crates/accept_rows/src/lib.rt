@@ -2,17 +2,18 @@
 // at once; numbers 2 to 4 are the table's own.
 #![tactic(auto)]
 
-ghost use Rattle.std.specs.Prelude.{◌≡◌, true, [], ◌∷◌, length};
+ghost use Rattle.std.specs.Prelude.{◌≡◌, true, length};
 ghost use Rattle.layout.specs.Layout.{cells, state_length, demand_length};
 ghost use Rattle.refusals.specs.Checks.{answer};
-ghost use Rattle.accept_rows.specs.Acceptance.{state_lengths_fit, row_lengths_fit, state_in_range, state_numbers, demand_numbers, state_checks, row_checks, demand_checks, state_alone_checks};
+ghost use Rattle.accept_rows.specs.Acceptance.{state_lengths_fit, row_lengths_fit, state_numbers, demand_numbers, state_checks, row_checks, demand_checks, state_alone_checks};
 ghost use Rattle.layout.specs.Corridor.{corridor_of};
 
 mod checks;
 
 use accept_tables::{accept_table, table_length_fits};
+use checks::{demand_in_range, demand_passes, queues_hold, state_in_range};
 use layout::{cells, demand_length, state_length};
-use refusals::{Answer, Refusal};
+use refusals::Refusal;
 
 // Number 1 of a table and a state.
 fn state_lengths_fit(table: &[u32], state: &[u32]) -> bool
@@ -28,88 +29,71 @@ fn row_lengths_fit(table: &[u32], state: &[u32], demand: &[u32]) -> bool
     state_lengths_fit(table, state) & (demand.len() == demand_length(cells(table)))
 }
 
-// Number 5.
-fn state_number(table: &[u32], state: &[u32]) -> Answer
-    requires { length state.now ≡ state_length (cells table.now) }
-    ensures { result ≡ answer (state_in_range (corridor_of table.now state.now) ∷ []) }
-{
-    let at = checks::state_in_range(table, state);
-    if at <= cells(table) {
-        return Answer::Refused(Refusal::StateNumber(at));
-    }
-    Answer::Accepted
-}
-
 // Numbers 2 to 5, where the lengths fit: so a table's own answer is never its number 1.
-fn state_numbers(table: &[u32], state: &[u32]) -> Answer
+#[tactic(auto, using(refusals::proofs::Answers::in_their_order))]
+fn state_numbers(table: &[u32], state: &[u32]) -> Result<(), Refusal>
     requires { state_lengths_fit (corridor_of table.now state.now) ≡ true }
     ensures { result ≡ answer (state_numbers (corridor_of table.now state.now)) }
 {
-    let found = accept_table(table);
-    if let Answer::Refused(refusal) = found {
-        return Answer::Refused(refusal);
-    }
-    state_number(table, state)
+    accept_table(table)?;
+    state_in_range(table, state)
 }
 
-// Numbers 6 and 7. Where 6 passes at every place, the least that fails either is the least that fails 7.
-fn demand_numbers(table: &[u32], state: &[u32], demand: &[u32]) -> Answer
+// Numbers 6 and 7. A row that nothing refuses, the usual one, is walked over once.
+#[tactic(auto, using(refusals::proofs::Answers::in_their_order))]
+fn demand_numbers(table: &[u32], state: &[u32], demand: &[u32]) -> Result<(), Refusal>
     requires state_len { length state.now ≡ state_length (cells table.now) }
     requires demand_len { length demand.now ≡ demand_length (cells table.now) }
     ensures { result ≡ answer (demand_numbers (corridor_of table.now state.now) demand.now) }
 {
-    let n = cells(table);
-    let at = checks::demand_in_range(table, state, demand, true);
-    if n < at {
-        return Answer::Accepted;
+    if demand_passes(table, state, demand) {
+        return Ok(());
     }
-    let range = checks::demand_in_range(table, state, demand, false);
-    if range <= n {
-        return Answer::Refused(Refusal::Demand(range));
-    }
-    Answer::Refused(Refusal::QueueOver(at))
+    demand_in_range(table, demand)?;
+    queues_hold(table, state, demand)
 }
 
 // Whether a state is accepted under a table: numbers 1 to 5.
-pub fn accept_state(table: &[u32], state: &[u32]) -> Answer
+#[tactic(auto, using(refusals::proofs::Answers::in_their_order))]
+pub fn accept_state(table: &[u32], state: &[u32]) -> Result<(), Refusal>
     ensures { result ≡ answer (state_checks (corridor_of table.now state.now)) }
 {
     if !state_lengths_fit(table, state) {
-        return Answer::Refused(Refusal::Length);
+        return Err(Refusal::Length);
     }
     state_numbers(table, state)
 }
 
 // Whether a demand row is accepted under a table and a state: numbers 1 to 7.
-pub fn accept_row(table: &[u32], state: &[u32], demand: &[u32]) -> Answer
+#[tactic(auto, using(refusals::proofs::Answers::in_their_order))]
+pub fn accept_row(table: &[u32], state: &[u32], demand: &[u32]) -> Result<(), Refusal>
     ensures { result ≡ answer (row_checks (corridor_of table.now state.now) demand.now) }
 {
     if !row_lengths_fit(table, state, demand) {
-        return Answer::Refused(Refusal::Length);
+        return Err(Refusal::Length);
     }
-    let found = state_numbers(table, state);
-    if let Answer::Refused(refusal) = found {
-        return Answer::Refused(refusal);
-    }
+    state_numbers(table, state)?;
     demand_numbers(table, state, demand)
 }
 
 // Whether a demand row is accepted under a table and a state that are accepted already: numbers 1, 6 and 7.
-pub fn accept_demand(table: &[u32], state: &[u32], demand: &[u32]) -> Answer
+#[tactic(auto, using(refusals::proofs::Answers::in_their_order))]
+pub fn accept_demand(table: &[u32], state: &[u32], demand: &[u32]) -> Result<(), Refusal>
     ensures { result ≡ answer (demand_checks (corridor_of table.now state.now) demand.now) }
 {
     if !row_lengths_fit(table, state, demand) {
-        return Answer::Refused(Refusal::Length);
+        return Err(Refusal::Length);
     }
     demand_numbers(table, state, demand)
 }
 
 // Whether a state is accepted under a table that is accepted already: numbers 1 and 5.
-pub fn accept_state_alone(table: &[u32], state: &[u32]) -> Answer
+#[tactic(auto, using(refusals::proofs::Answers::in_their_order))]
+pub fn accept_state_alone(table: &[u32], state: &[u32]) -> Result<(), Refusal>
     ensures { result ≡ answer (state_alone_checks (corridor_of table.now state.now)) }
 {
     if !state_lengths_fit(table, state) {
-        return Answer::Refused(Refusal::Length);
+        return Err(Refusal::Length);
     }
-    state_number(table, state)
+    state_in_range(table, state)
 }

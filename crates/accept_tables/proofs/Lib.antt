@@ -2,4 +2,3 @@ pub mod Marks
 pub mod Ramps
 pub mod Accepted
 pub mod Settled
-pub mod Numbers

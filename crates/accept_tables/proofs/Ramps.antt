@@ -2,19 +2,23 @@
 use Prim.Native.Nat.{ℕ, ◌+◌, ◌*◌, ◌/◌, ◌%◌, ◌<◌}
 use mathlib.Core.Path.{◌≡◌, refl, sym, ap, ◌∙◌}
 use mathlib.Core.Bool.{Bool, true, false, not, ◌&&◌, ◌||◌, and-true, and-false}
-use mathlib.Core.List.{List}
+use mathlib.Core.List.{List, [], ◌∷◌}
 use native.Mathlib.Numerals.{add-one}
 use native.Mathlib.Omega.{arith}
 use native.Mathlib.Decide.{ℕ_discrete}
-use borrow.Author.Tests.{eq-eqb, ne_eqb}
+use borrow.Author.Count.{below_more}
+use borrow.Author.Tests.{eq-eqb, ne_eqb, not-true, not-false}
 use lib.Dec.{eqb}
 use lib.ListN.{length, replicate, length-replicate, length-set}
 use Rattle.whole.specs.Search.{pick, every}
-use Rattle.whole.proofs.Search.{Passes}
+use Rattle.whole.proofs.Search.{Passes, first_is}
+use Rattle.std.specs.Prelude.{Err}
+use Rattle.refusals.specs.declared.Refusal.TheVariants.{RampAgain}
+use Rattle.refusals.specs.Checks.{accepted, answer}
+use Rattle.refusals.proofs.Answers.{stops, accepted_passes}
 use Rattle.layout.specs.declared.Row.{Row}
-use Rattle.layout.specs.Layout.{cells, row_at, ramp_positions, ramp_at}
-use Rattle.accept_ranges.specs.Ranges.{row_in_range}
-use Rattle.accept_tables.specs.Tables.{ramp_is_new}
+use Rattle.layout.specs.Layout.{cells, row_at, ramp_positions, ramp_cell, ramp_at}
+use Rattle.accept_tables.specs.Tables.{ramp_is_new, rows_in_range, ramps_once}
 use Rattle.accept_ranges.proofs.Ranges.{InRange, in_range}
 use Rattle.accept_tables.proofs.Marks.{up, with_mark, fresh_down, own_mark_up, other_marks_stay}
 
@@ -75,12 +79,34 @@ module _ (table : List ℕ) (i : ℕ) {row : Row} (e : row ≡ row_at table i) w
   pub off_ramp_at : row.off ≡ ramp_at table (2 * i + 1)
   off_ramp_at = rw (e, ne_eqb ((2 * i + 1) % 2) 0 (omega arith)) (ap (λ j. (row_at table j).off) (omega arith))
 
+-- the ramp numbers at the first k positions are new, and their marks are up
+pub record RampsPassed (table : List ℕ) (k : ℕ) (marks : List ℕ) : Type 0 where
+  pub passed : Passes k (ramp_is_new table)
+  pub marked : Marked table k marks
+
+pub one_more : {table marks marks' : List ℕ} {k ramp : ℕ} {r : Bool} → RampsPassed table k marks → ramp ≡ ramp_at table k → ramp < 65_536
+    → r ≡ (not (eqb ramp 0) && up marks ramp) → marks' ≡ pick (eqb ramp 0) marks (with_mark marks ramp) → r ≡ false → RampsPassed table (k + 1) marks'
+one_more {table} {k = k} so e h r stored new =
+    record {
+      passed = below_more (λ k. ramp_is_new table k ≡ true) k so.passed (not-false _ (marks_tell so.marked e r ∙ new));
+      marked = mark_up so.marked e h stored;
+    }
+
+-- the number at position k, that of cell i, stands there again
+pub once_again : {table marks : List ℕ} {k i ramp : ℕ} {r : Bool} → RampsPassed table k marks → ramp ≡ ramp_at table k → r ≡ (not (eqb ramp 0) && up marks ramp) → r ≡ true
+    → k < ramp_positions (cells table) → ramp_cell k ≡ i → Err (RampAgain (i + 1)) ≡ answer (ramps_once table ∷ [])
+once_again {table} {k = k} so e r again h at =
+    rw (← at)
+    (stops (ramps_once table) accepted
+    (first_is _ (ramp_is_new table) k (record { reaches = omega arith; before = so.passed; fails = λ _. not-true _ (marks_tell so.marked e r ∙ again) }))
+    h)
+
 -- in a table whose rows are in range, each ramp number has its mark
-pub ramps_have_marks : (table : List ℕ) → Passes (cells table) (λ i. row_in_range (row_at table i)) → (k : ℕ) → k < ramp_positions (cells table) → ramp_at table k < 65_536
+pub ramps_have_marks : (table : List ℕ) → accepted ≡ answer (rows_in_range table ∷ []) → (k : ℕ) → k < ramp_positions (cells table) → ramp_at table k < 65_536
 ramps_have_marks table rows k h = by (eqb (k % 2) 0)
   where
     ranges : InRange (row_at table (k / 2))
-    ranges = in_range (row_at table (k / 2)) (rows (k / 2) (omega arith))
+    ranges = in_range (row_at table (k / 2)) ((accepted_passes (rows_in_range table) accepted (sym rows)).0 (k / 2) (omega arith))
 
     by : (even : Bool) → pick even (row_at table (k / 2)).on (row_at table (k / 2)).off < 65_536
     by true = omega (arith, ranges.on.most)

@@ -1,40 +1,35 @@
-// The checks of the rules' numbers 2 to 4. Each answers the least place that fails its test, counted from 0, or how many places there are
-// where none fails.
-ghost use Rattle.std.specs.Prelude.{◌≡◌, ℕ, ◌/◌, ◌%◌, ◌^◌, ◌<◌, not, ◌&&◌, eqb, get_or, set};
+// The checks of the rules' numbers 2 to 4, each by itself.
+ghost use Rattle.std.specs.Prelude.{◌≡◌, ℕ, ◌/◌, ◌%◌, ◌^◌, ◌<◌, [], ◌∷◌, not, ◌&&◌, eqb, get_or, set};
 ghost use Rattle.std.specs.Int.Bits.{bit_or};
-ghost use Rattle.whole.specs.Search.{pick, first_failing};
-ghost use Rattle.layout.specs.Layout.{cells, row_at, ramp_positions, ramp_at};
-ghost use Rattle.refusals.specs.Checks.{least};
-ghost use Rattle.accept_ranges.specs.Ranges.{row_in_range, room_shared};
-ghost use Rattle.accept_tables.specs.Tables.{ramps_once};
+ghost use Rattle.whole.specs.Search.{pick};
+ghost use Rattle.layout.specs.Layout.{cells, ramp_positions, ramp_at};
+ghost use Rattle.refusals.specs.Checks.{answer};
+ghost use Rattle.accept_tables.specs.Tables.{rows_in_range, rooms_shared, ramps_once};
 
 use accept_ranges::{room_shared, row_in_range};
-use layout::*;
+use layout::{cells, row_at};
+use refusals::{Refusal, ask};
 
-// Number 2 or 3 of a cell row.
-fn row_fits(row: Row, number: u32) -> bool
-    ensures { result ≡ pick (eqb number 2) (row_in_range row) (room_shared row) }
+// Number 2.
+pub(crate) fn rows_in_range(table: &[u32]) -> Result<(), Refusal>
+    ensures { result ≡ answer (rows_in_range table.now ∷ []) }
 {
-    if number == 2 {
-        row_in_range(row)
-    } else {
-        room_shared(row)
-    }
+    ask(
+        cells(table),
+        |i| row_in_range(row_at(table, i)),
+        |i| Refusal::TableNumber(i + 1),
+    )
 }
 
-// Number 2 or 3.
-pub(crate) fn rows_fit(table: &[u32], number: u32) -> usize
-    ensures { result ≡ first_failing (cells table.now) (λ i. pick (eqb number 2) (row_in_range (row_at table.now i)) (room_shared (row_at table.now i))) }
+// Number 3.
+pub(crate) fn rooms_shared(table: &[u32]) -> Result<(), Refusal>
+    ensures { result ≡ answer (rooms_shared table.now ∷ []) }
 {
-    let n = cells(table);
-    let mut i = 0;
-    while i < n {
-        if !row_fits(row_at(table, i), number) {
-            return i;
-        }
-        i += 1;
-    }
-    n
+    ask(
+        cells(table),
+        |i| room_shared(row_at(table, i)),
+        |i| Refusal::RoomShares(i + 1),
+    )
 }
 
 // Puts a ramp number's mark up, and answers whether it was up already: bit by bit, in words of 64. Number 0 is no ramp and has no mark.
@@ -52,22 +47,16 @@ fn ramp_again(marks: &mut [u64; 1_024], ramp: usize) -> bool
 }
 
 // Number 4: a mark that is up says that its ramp number stands at a position already passed.
-pub(crate) fn ramps_once(table: &[u32]) -> usize
+pub(crate) fn ramps_once(table: &[u32]) -> Result<(), Refusal>
     requires { (k : ℕ) → k < ramp_positions (cells table.now) → ramp_at table.now k < 65_536 }
-    ensures { result ≡ least (ramps_once table.now) }
+    ensures { result ≡ answer (ramps_once table.now ∷ []) }
 {
     let mut marks = [0; 1_024];
-    let n = cells(table);
-    let mut i = 0;
-    while i < n {
+    for i in 0..cells(table) {
         let row = row_at(table, i);
-        if ramp_again(&mut marks, row.on as usize) {
-            return ramp_positions(i);
+        if ramp_again(&mut marks, row.on as usize) || ramp_again(&mut marks, row.off as usize) {
+            return Err(Refusal::RampAgain(i + 1));
         }
-        if ramp_again(&mut marks, row.off as usize) {
-            return ramp_positions(i) + 1;
-        }
-        i += 1;
     }
-    ramp_positions(n)
+    Ok(())
 }

@@ -1,4 +1,5 @@
 -- How a call ends: the word of its answer, and what its lists then hold. Assumes nothing.
+use Rattle.std.specs.Prelude.{Ok, Err}
 use Prim.Native.Nat.{ℕ, ◌+◌, ◌*◌, ◌/◌, ◌%◌, ◌<◌}
 use mathlib.Core.Path.{◌≡◌, refl, sym, ap, ◌∙◌}
 use mathlib.Core.Bool.{Bool, true, false, not}
@@ -12,10 +13,8 @@ use lib.Ieee.{Float}
 use lib.ListN.{length, set}
 use Rattle.refusals.specs.declared.Refusal.{Refusal}
 use Rattle.refusals.specs.declared.Refusal.TheVariants.{Length, TableNumber, RoomShares, RampAgain, StateNumber, Demand, QueueOver, Pieces, Sample, Fit, RowValue, Record, Groups}
-use Rattle.refusals.specs.declared.Answer.{Answer}
-use Rattle.refusals.specs.declared.Answer.TheVariants.{Accepted, Refused}
 use Rattle.refusals.specs.Refusals.{number_of, place_of}
-use Rattle.refusals.specs.Checks.{Check, answer}
+use Rattle.refusals.specs.Checks.{Answer, accepted, Check, answer}
 use Rattle.whole.proofs.Tests.{both_hold}
 use Rattle.accept_ranges.proofs.Ranges.{Between}
 use Rattle.layout.specs.Corridor.{Corridor}
@@ -56,34 +55,34 @@ numbers (Record place) = record { least = omega arith; most = omega arith }
 numbers (Groups cell) = record { least = omega arith; most = omega arith }
 
 module _ (count : ℕ) {answered : Answer} {refusal : Refusal} {number place : ℕ} where
-  pub word_fits : count < COUNTS → Placed answered → answered ≡ Refused refusal → number ≡ number_of refusal → place ≡ place_of refusal → Fits w64 (count * ANSWERS + number * PLACES + place)
+  pub word_fits : count < COUNTS → Placed answered → answered ≡ Err refusal → number ≡ number_of refusal → place ≡ place_of refusal → Fits w64 (count * ANSWERS + number * PLACES + place)
   word_fits few placed is n p =
       let low : place_of refusal < PLACES = rw is at placed in
       record { fits = omega (arith, numbers refusal) }
 
-  pub word_is : answered ≡ Refused refusal → number ≡ number_of refusal → place ≡ place_of refusal → count * ANSWERS + number * PLACES + place ≡ word_of count answered
+  pub word_is : answered ≡ Err refusal → number ≡ number_of refusal → place ≡ place_of refusal → count * ANSWERS + number * PLACES + place ≡ word_of count answered
   word_is is n p = rw (is, n, p)
 
 -- an accepted answer has number 0 at place 0
 abbrev number_in : Answer → ℕ
-number_in Accepted = 0
-number_in (Refused refusal) = number_of refusal
+number_in (Ok done) = 0
+number_in (Err refusal) = number_of refusal
 
 abbrev place_in : Answer → ℕ
-place_in Accepted = 0
-place_in (Refused refusal) = place_of refusal
+place_in (Ok done) = 0
+place_in (Err refusal) = place_of refusal
 
 -- a caller takes the word apart, and no refusal has number 0
 pub record Tells (word periods : ℕ) (answered : Answer) : Type 0 where
   pub count : word / ANSWERS ≡ periods
   pub number : word / PLACES % 256 ≡ number_in answered
   pub place : word % PLACES ≡ place_in answered
-  pub accepted : word / PLACES % 256 ≡ 0 → answered ≡ Accepted
+  pub accepted : word / PLACES % 256 ≡ 0 → answered ≡ accepted
 
 pub word_tells : (count : ℕ) (answered : Answer) → Placed answered → Tells (word_of count answered) count answered
-word_tells count Accepted placed =
+word_tells count accepted placed =
     record { count = omega arith; number = omega arith; place = omega arith; accepted = λ e. refl }
-word_tells count (Refused refusal) placed =
+word_tells count (Err refusal) placed =
     record {
       count = omega (arith, numbers refusal);
       number = omega (arith, numbers refusal);
@@ -137,16 +136,16 @@ four_stored (a ∷ b ∷ []) n e = absurd (omega (arith, e))
 four_stored (a ∷ b ∷ c ∷ []) n e = absurd (omega (arith, e))
 four_stored (a ∷ b ∷ c ∷ p ∷ q ∷ rest) n e = absurd (omega (arith, e))
 
-not_calibrated_by : (a : Answer) (diagram : Diagram) (values : RowValues) {refusal : Refusal} → NotCalibrated refusal ≡ calibrated_as a diagram values → Refused refusal ≡ a
-not_calibrated_by Accepted diagram values e = cc
-not_calibrated_by (Refused r) diagram values e = cc
+not_calibrated_by : (a : Answer) (diagram : Diagram) (values : RowValues) {refusal : Refusal} → NotCalibrated refusal ≡ calibrated_as a diagram values → Err refusal ≡ a
+not_calibrated_by (Ok done) diagram values e = cc
+not_calibrated_by (Err r) diagram values e = cc
 
-calibrated_by : (a : Answer) (diagram : Diagram) (values : RowValues) {fitted : Diagram} {numbers : RowNumbers} → Calibrated fitted numbers ≡ calibrated_as a diagram values → (Accepted ≡ a) × ((fitted ≡ diagram) × (numbers ≡ row_numbers values))
-calibrated_by Accepted diagram values e = (refl, (cc, cc))
-calibrated_by (Refused r) diagram values e = (cc, (cc, cc))
+calibrated_by : (a : Answer) (diagram : Diagram) (values : RowValues) {fitted : Diagram} {numbers : RowNumbers} → Calibrated fitted numbers ≡ calibrated_as a diagram values → (accepted ≡ a) × ((fitted ≡ diagram) × (numbers ≡ row_numbers values))
+calibrated_by (Ok done) diagram values e = (refl, (cc, cc))
+calibrated_by (Err r) diagram values e = (cc, (cc, cc))
 
 module _ (settings : Settings) (flow occupancy diagram : List Float) (row : List ℕ) {fits : Bool} (test : fits ≡ results_fit diagram row) where
-  pub results_refused : not fits ≡ true → {word : ℕ} → word ≡ word_of 0 (Refused Length) → CalibrateCalled settings flow occupancy diagram row word diagram row
+  pub results_refused : not fits ≡ true → {word : ℕ} → word ≡ word_of 0 (Err Length) → CalibrateCalled settings flow occupancy diagram row word diagram row
   results_refused fails e =
       let none = sym test ∙ not-true _ fails in
       record { answered = rw none e; leaves_diagram = rw none; leaves_row = rw none }
@@ -162,14 +161,14 @@ module _ (settings : Settings) (flow occupancy diagram : List Float) (row : List
     row_length = eqb-true _ _ (both_hold (eqb (length diagram) 5) (eqb (length row) 4) fit).1
 
     module _ {found : Calibration} (is : found ≡ calibration_of settings flow occupancy) where
-      refusal_is : {refusal : Refusal} → found ≡ NotCalibrated refusal → Refused refusal ≡ answer (calibration_checks settings flow occupancy)
+      refusal_is : {refusal : Refusal} → found ≡ NotCalibrated refusal → Err refusal ≡ answer (calibration_checks settings flow occupancy)
       refusal_is e =
           not_calibrated_by (answer (calibration_checks settings flow occupancy)) (fitted_diagram settings flow occupancy) (fitted_values settings flow occupancy) (sym e ∙ is)
 
-      pub refusal_placed : {refusal : Refusal} → found ≡ NotCalibrated refusal → Placed (Refused refusal)
+      pub refusal_placed : {refusal : Refusal} → found ≡ NotCalibrated refusal → Placed (Err refusal)
       refusal_placed e = fits_as (refusal_is e) (calibration_placed settings flow occupancy)
 
-      pub calibrate_refused : {refusal : Refusal} {word : ℕ} → found ≡ NotCalibrated refusal → word ≡ word_of 0 (Refused refusal) → CalibrateCalled settings flow occupancy diagram row word diagram row
+      pub calibrate_refused : {refusal : Refusal} {word : ℕ} → found ≡ NotCalibrated refusal → word ≡ word_of 0 (Err refusal) → CalibrateCalled settings flow occupancy diagram row word diagram row
       calibrate_refused e w =
           record {
             answered = rw (fit, ← refusal_is e) w;

@@ -1,4 +1,5 @@
 -- Every place fits its half of a word: a check's refusals have places that its lengths bound. Assumes nothing.
+use Rattle.std.specs.Prelude.{Ok, Err}
 use Prim.Native.Nat.{ℕ, ◌≤◌, ◌<◌}
 use mathlib.Core.Path.{◌≡◌, refl}
 use mathlib.Core.Bool.{Bool, true, false, ◌&&◌}
@@ -11,11 +12,9 @@ use lib.ListN.{length}
 use Rattle.whole.specs.Search.{pick}
 use Rattle.whole.proofs.Search.{is_first}
 use Rattle.refusals.specs.declared.Refusal.TheVariants.{Pieces, Groups}
-use Rattle.refusals.specs.declared.Answer.{Answer}
-use Rattle.refusals.specs.declared.Answer.TheVariants.{Accepted, Refused}
 use Rattle.layout.specs.Layout.{cells}
 use Rattle.refusals.specs.Refusals.{place_of}
-use Rattle.refusals.specs.Checks.{Check, least, or_later, answer, when_accepted, lengths}
+use Rattle.refusals.specs.Checks.{Answer, accepted, Check, least, or_later, answer, when_accepted, lengths}
 use Rattle.accept_tables.specs.Tables.{table_length_fits, table_numbers, table_checks, both_tables}
 use Rattle.accept_rows.specs.Acceptance.{state_lengths_fit, row_lengths_fit, state_in_range, state_numbers, demand_numbers, state_checks, row_checks}
 use Rattle.refusals.proofs.Answers.{accepted_passes}
@@ -49,7 +48,7 @@ unfolding or_later
 placed [] each = tt
 placed (check ∷ checks) each = by (ltb (least check) check.places) refl (placed checks each.1)
   where
-    by : (fails : Bool) → ltb (least check) check.places ≡ fails → Placed (answer checks) → Placed (pick fails (Refused (check.refusal (least check))) (answer checks))
+    by : (fails : Bool) → ltb (least check) check.places ≡ fails → Placed (answer checks) → Placed (pick fails (Err (check.refusal (least check))) (answer checks))
     by true h later = each.0 (least check) (ltb-true (least check) check.places h)
     by false h later = later
 
@@ -108,7 +107,7 @@ module _ (way : Sharing) (c : Corridor) (demand sheet : List ℕ) where
       let both = both_hold (state_lengths_fit c) (run_lists_fit (cells_of c) demand sheet) e in
       (cells_most c both.0, (lists_fit_lem (cells_of c) demand sheet both.1).0)
 
-  checked_fit : checked ≡ Accepted → (cells_of c ≤ 512) × (rows (cells_of c) demand ≤ 4096)
+  checked_fit : checked ≡ accepted → (cells_of c ≤ 512) × (rows (cells_of c) demand ≤ 4096)
   checked_fit e = few_lists ((accepted_passes _ _ e).0 0 (omega arith))
 
   checked_placed : Placed checked
@@ -124,7 +123,7 @@ module _ (way : Sharing) (c : Corridor) (demand sheet : List ℕ) where
       few_still : cells_of (corridor_after_periods way c demand (completed way c demand)) ≤ 512
       few_still = rw (table_stays way c demand (completed way c demand)) few
 
-      by : (fails : Bool) → Placed (pick fails (row_answer way c demand (completed way c demand)) Accepted)
+      by : (fails : Bool) → Placed (pick fails (row_answer way c demand (completed way c demand)) accepted)
       by true = at_row (corridor_after_periods way c demand (completed way c demand)) few_still (demand_row (cells_of c) demand (completed way c demand))
       by false = tt
 
@@ -132,16 +131,16 @@ module _ (way : Sharing) (c : Corridor) (demand sheet : List ℕ) where
   run_placed = by checked refl checked_placed
     where
       by : (a : Answer) → checked ≡ a → Placed a → Placed (when_accepted a (rows_answer way c demand) a)
-      by Accepted e fits = rows_placed (checked_fit e).0
-      by (Refused refusal) e fits = fits
+      by (Ok done) e fits = rows_placed (checked_fit e).0
+      by (Err refusal) e fits = fits
 
   -- the periods completed fit their part of a word
   pub few_periods : periods_run way c demand sheet ≤ 4096
   few_periods = by checked refl
     where
       by : (a : Answer) → checked ≡ a → when_accepted a (completed way c demand) 0 ≤ 4096
-      by Accepted e = omega (arith, (checked_fit e).1, (is_first (rows (cells_of c) demand) (λ k. is_accepted (row_answer way c demand k))).reaches)
-      by (Refused refusal) e = omega arith
+      by (Ok done) e = omega (arith, (checked_fit e).1, (is_first (rows (cells_of c) demand) (λ k. is_accepted (row_answer way c demand k))).reaches)
+      by (Err refusal) e = omega arith
 
 -- A re-cut and a join, by their last check
 

@@ -1,10 +1,8 @@
 -- What each exported function answers, and what each lent list then holds: as the promise of the function that it calls says.
-use Rattle.std.specs.Prelude.{ℕ, ◌≡◌, Bool, ◌&&◌, List, [], ◌∷◌, eqb, Float, length}
+use Rattle.std.specs.Prelude.{ℕ, ◌≡◌, Bool, ◌&&◌, List, [], ◌∷◌, eqb, Float, length, Err}
 use Rattle.whole.specs.Search.{pick}
 use Rattle.refusals.specs.declared.Refusal.TheVariants.{Length}
-use Rattle.refusals.specs.declared.Answer.{Answer}
-use Rattle.refusals.specs.declared.Answer.TheVariants.{Refused}
-use Rattle.refusals.specs.Checks.{Check, answer, when_accepted}
+use Rattle.refusals.specs.Checks.{Answer, Check, answer, when_accepted}
 use Rattle.layout.specs.Corridor.{Corridor}
 use Rattle.period.specs.Sharing.{Sharing}
 use Rattle.period.specs.Period.{period_checks, PeriodDone}
@@ -52,7 +50,7 @@ results_fit diagram row = eqb (length diagram) 5 && eqb (length row) 4
 
 -- number 1, the lowest, where the lists of results have not their lengths
 abbrev pub with_lists : Bool → Answer → Answer
-with_lists fit answered = pick fit answered (Refused Length)
+with_lists fit answered = pick fit answered (Err Length)
 
 -- 1, 9, 10 and 11 of a calibration and of its lists
 abbrev pub calibrate_answer : Settings → List Float → List Float → List Float → List ℕ → Answer

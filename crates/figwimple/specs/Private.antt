@@ -1,8 +1,7 @@
 -- Cited by private contracts and proofs alone: no public promise rests on this file.
 -- What making a word asks of a count and of an answer.
-use Rattle.std.specs.Prelude.{ℕ, ◌<◌}
-use Rattle.refusals.specs.declared.Answer.{Answer}
-use Rattle.refusals.specs.declared.Answer.TheVariants.{Accepted, Refused}
+use Rattle.refusals.specs.Checks.{Answer}
+use Rattle.std.specs.Prelude.{ℕ, ◌<◌, Ok, Err}
 use Rattle.refusals.specs.Refusals.{place_of}
 use Rattle.figwimple.specs.Words.{PLACES}
 
@@ -12,5 +11,5 @@ COUNTS = 16_777_216
 
 -- the place of an answer fits the word's lower half
 abbrev pub Placed : Answer → Type 0
-Placed Accepted = Unit
-Placed (Refused refusal) = place_of refusal < PLACES
+Placed (Ok done) = Unit
+Placed (Err refusal) = place_of refusal < PLACES

@@ -1,7 +1,6 @@
 -- An answer as one word.
-use Rattle.std.specs.Prelude.{ℕ, ◌+◌, ◌*◌}
-use Rattle.refusals.specs.declared.Answer.{Answer}
-use Rattle.refusals.specs.declared.Answer.TheVariants.{Accepted, Refused}
+use Rattle.refusals.specs.Checks.{Answer}
+use Rattle.std.specs.Prelude.{ℕ, ◌+◌, ◌*◌, Ok, Err}
 use Rattle.refusals.specs.Refusals.{number_of, place_of}
 
 -- 2^32, above every place
@@ -14,5 +13,5 @@ ANSWERS = 1_099_511_627_776
 
 -- count × 2^40 + number × 2^32 + place, with number and place 0 for accepted. The count is of the periods that a run completed.
 abbrev pub word_of : ℕ → Answer → ℕ
-word_of count Accepted = count * ANSWERS
-word_of count (Refused refusal) = count * ANSWERS + number_of refusal * PLACES + place_of refusal
+word_of count (Ok done) = count * ANSWERS
+word_of count (Err refusal) = count * ANSWERS + number_of refusal * PLACES + place_of refusal

@@ -1,8 +1,7 @@
 -- Rules, "Join": the new state, and what is refused. The old cells of a group are the pieces of a new cell, and a group size their count.
 use Rattle.std.specs.Prelude.{ℕ, ◌+◌, ◌-◌, List}
 use Rattle.whole.specs.Sums.{sum}
-use Rattle.refusals.specs.declared.Answer.{Answer}
-use Rattle.refusals.specs.Checks.{Check}
+use Rattle.refusals.specs.Checks.{Answer, Check}
 use Rattle.layout.specs.declared.Cell.{Cell}
 use Rattle.layout.specs.Layout.{cells, state_of}
 use Rattle.layout.specs.Corridor.{Corridor, corridor_of, entry_queue_of, count_of, queue_of, last_mode_of}

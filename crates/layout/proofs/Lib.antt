@@ -1,4 +1,5 @@
 pub mod Laid
+pub mod Rooms
 pub mod Readers
 pub mod Settled
 pub mod States

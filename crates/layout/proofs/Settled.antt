@@ -13,12 +13,8 @@ use Rattle.layout.proofs.state_length.Kinds as state_length_kinds
 use Rattle.layout.proofs.state_length.Reads as state_length_reads
 use Rattle.layout.proofs.demand_length.Kinds as demand_length_kinds
 use Rattle.layout.proofs.demand_length.Reads as demand_length_reads
-use Rattle.layout.proofs.table_space.Kinds as table_space_kinds
-use Rattle.layout.proofs.table_space.Reads as table_space_reads
-use Rattle.layout.proofs.state_space.Kinds as state_space_kinds
-use Rattle.layout.proofs.state_space.Reads as state_space_reads
-use Rattle.layout.proofs.demand_space.Kinds as demand_space_kinds
-use Rattle.layout.proofs.demand_space.Reads as demand_space_reads
+use Rattle.layout.proofs.space.Kinds as space_kinds
+use Rattle.layout.proofs.space.Reads as space_reads
 use Rattle.layout.proofs.row_at.Kinds as row_at_kinds
 use Rattle.layout.proofs.row_at.Reads as row_at_reads
 use Rattle.layout.proofs.ramp_positions.Kinds as ramp_positions_kinds
@@ -45,8 +41,6 @@ use Rattle.layout.proofs.off_demand_at.Kinds as off_demand_at_kinds
 use Rattle.layout.proofs.off_demand_at.Reads as off_demand_at_reads
 use Rattle.layout.proofs.sheet.sheet_length.Kinds as sheet_length_kinds
 use Rattle.layout.proofs.sheet.sheet_length.Reads as sheet_length_reads
-use Rattle.layout.proofs.sheet.sheet_space.Kinds as sheet_space_kinds
-use Rattle.layout.proofs.sheet.sheet_space.Reads as sheet_space_reads
 use Rattle.layout.proofs.sheet.flow_in.Kinds as flow_in_kinds
 use Rattle.layout.proofs.sheet.flow_in.Reads as flow_in_reads
 use Rattle.layout.proofs.sheet.off_flow_in.Kinds as off_flow_in_kinds
@@ -85,14 +79,8 @@ state_length_settles κs a y z e f = settled
 pub demand_length_settles : Settles _ demand_length_kinds.ps demand_length_kinds.r demand_length_reads.Learnt
 demand_length_settles κs a y z e f = settled
 
-pub table_space_settles : Settles _ table_space_kinds.ps table_space_kinds.r table_space_reads.Learnt
-table_space_settles κs a y z e f p q = settled p.empty q.empty
-
-pub state_space_settles : Settles _ state_space_kinds.ps state_space_kinds.r state_space_reads.Learnt
-state_space_settles κs a y z e f p q = settled p.empty q.empty
-
-pub demand_space_settles : Settles _ demand_space_kinds.ps demand_space_kinds.r demand_space_reads.Learnt
-demand_space_settles κs a y z e f p q = settled p.empty q.empty
+pub space_settles : (N : ℕ) (fits : _) → Settles _ (space_kinds.ps N fits) (space_kinds.r N fits) (space_reads.Learnt N fits)
+space_settles N fits κs a y z e f p q = settled p.empty q.empty
 
 pub row_at_settles : Settles _ row_at_kinds.ps row_at_kinds.r row_at_reads.Learnt
 row_at_settles κs a y z e f = settled
@@ -132,9 +120,6 @@ off_demand_at_settles κs a y z e f = settled
 
 pub sheet_length_settles : Settles _ sheet_length_kinds.ps sheet_length_kinds.r sheet_length_reads.Learnt
 sheet_length_settles κs a y z e f = settled
-
-pub sheet_space_settles : Settles _ sheet_space_kinds.ps sheet_space_kinds.r sheet_space_reads.Learnt
-sheet_space_settles κs a y z e f p q = settled p.empty q.empty
 
 pub flow_in_settles : Settles _ flow_in_kinds.ps flow_in_kinds.r flow_in_reads.Learnt
 flow_in_settles κs a y z e f = settled

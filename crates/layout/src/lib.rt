@@ -4,7 +4,7 @@
 
 ghost use Rattle.std.specs.Prelude.{◌≡◌, ◌+◌, ◌*◌, ◌<◌, length};
 ghost use Rattle.layout.specs.Laid.{Space, with_entry};
-ghost use Rattle.layout.specs.Layout.{WIDTH, Listed, MOST, cells, table_length, row_at, ramp_positions, ramp_cell, ramp_at, state_length, entry_queue, count_at, queue_at, last_mode_at, cell_at, with_cell, demand_length, entry_demand, on_demand_at, off_demand_at, with_demands};
+ghost use Rattle.layout.specs.Layout.{WIDTH, Listed, cells, table_length, row_at, ramp_positions, ramp_cell, ramp_at, state_length, entry_queue, count_at, queue_at, last_mode_at, cell_at, with_cell, demand_length, entry_demand, on_demand_at, off_demand_at, with_demands};
 
 pub mod sheet;
 
@@ -75,24 +75,18 @@ pub fn demand_length(n: usize) -> usize
     2 * n + 1
 }
 
-// Room for the lists of 512 cells.
+// The lengths of the lists of 512 cells.
+pub const TABLE_ROOM: usize = 5_120;
 
-pub fn table_space() -> [u32; 5_120]
-    ensures { Space (table_length MOST) result }
-{
-    [0; 5_120]
-}
+pub const STATE_ROOM: usize = 1_537;
 
-pub fn state_space() -> [u32; 1_537]
-    ensures { Space (state_length MOST) result }
-{
-    [0; 1_537]
-}
+pub const DEMAND_ROOM: usize = 1_025;
 
-pub fn demand_space() -> [u32; 1_025]
-    ensures { Space (demand_length MOST) result }
+// Room for a list of so many numbers.
+pub fn space<const N: usize>() -> [u32; N]
+    ensures { Space N result }
 {
-    [0; 1_025]
+    [0; N]
 }
 
 // Row i of a table.

@@ -1,7 +1,6 @@
 // Where each number stands in a flow sheet, and how long it is.
 ghost use Rattle.std.specs.Prelude.{◌≡◌, ◌+◌, ◌*◌, ◌<◌, length};
-ghost use Rattle.layout.specs.Laid.{Space};
-ghost use Rattle.layout.specs.Layout.{Listed, MOST};
+ghost use Rattle.layout.specs.Layout.{Listed};
 ghost use Rattle.layout.specs.Sheet.{sheet_length, flow_in, off_flow_in, on_flow_in, mode_in, with_flow, with_off_flow, with_on_flow, with_mode};
 
 pub fn sheet_length(n: usize) -> usize
@@ -11,12 +10,8 @@ pub fn sheet_length(n: usize) -> usize
     4 * n + 1
 }
 
-// Room for the sheet of 512 cells.
-pub fn sheet_space() -> [u32; 2_049]
-    ensures { Space (sheet_length MOST) result }
-{
-    [0; 2_049]
-}
+// The length of the sheet of 512 cells.
+pub const SHEET_ROOM: usize = 2_049;
 
 // The flow out of a position.
 pub fn flow_in(sheet: &[u32], position: usize) -> u32

@@ -1,4 +1,5 @@
 -- A re-cut and a join are sound: they change the table and keep the rest. Assumes nothing.
+use Rattle.std.specs.Prelude.{Ok, Err}
 use Prim.Native.Nat.{ℕ}
 use mathlib.Core.Path.{◌≡◌, refl, sym, ap, ◌∙◌}
 use mathlib.Core.Bool.{true, ◌&&◌, and-true}
@@ -7,9 +8,7 @@ use native.Mathlib.Omega.{arith}
 use borrow.Author.Tests.{eq-eqb}
 use lib.ListN.{length}
 use Rattle.refusals.specs.declared.Refusal.TheVariants.{Pieces, Groups}
-use Rattle.refusals.specs.declared.Answer.{Answer}
-use Rattle.refusals.specs.declared.Answer.TheVariants.{Accepted, Refused}
-use Rattle.refusals.specs.Checks.{answer, when_accepted}
+use Rattle.refusals.specs.Checks.{Answer, accepted, answer, when_accepted}
 use Rattle.layout.specs.Layout.{state_length}
 use Rattle.layout.specs.Corridor.{Corridor, cells_of}
 use Rattle.accept_tables.specs.Tables.{table_length_fits}
@@ -29,7 +28,7 @@ use Rattle.ledger.specs.Calls.{IsAccepted, recut, join, leaves, account_of}
 use Rattle.ledger.proofs.Sound.{Sound, stays, CallIsSound}
 
 -- a table and a state of their lengths, whose numbers are accepted
-accepted_whole : (c : Corridor) → table_length_fits c.table ≡ true → length c.state ≡ state_length (cells_of c) → answer (state_numbers c) ≡ Accepted → IsAccepted c
+accepted_whole : (c : Corridor) → table_length_fits c.table ≡ true → length c.state ≡ state_length (cells_of c) → answer (state_numbers c) ≡ accepted → IsAccepted c
 accepted_whole c table state numbers =
     lengths_passed (state_numbers c) (ap (λ b. table_length_fits c.table && b) (eq-eqb _ _ state) ∙ and-true _ ∙ table) ∙ numbers
 
@@ -52,9 +51,9 @@ joined_is_sound old groups new known =
     }
 
 -- one that is refused leaves the corridor
-accepted_or_stays : (c after : Corridor) → IsAccepted c → (a : Answer) → (a ≡ Accepted → Sound c after nothing) → Sound c (when_accepted a after c) nothing
-accepted_or_stays c after e Accepted sound = sound refl
-accepted_or_stays c after e (Refused refusal) sound = stays c e
+accepted_or_stays : (c after : Corridor) → IsAccepted c → (a : Answer) → (a ≡ accepted → Sound c after nothing) → Sound c (when_accepted a after c) nothing
+accepted_or_stays c after e (Ok done) sound = sound refl
+accepted_or_stays c after e (Err refusal) sound = stays c e
 
 module _ (way : Sharing) where
   pub recut_is_sound : (pieces new list : List ℕ) → CallIsSound way (recut pieces new list)

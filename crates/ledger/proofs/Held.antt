@@ -7,8 +7,7 @@ use borrow.Author.Tests.{eq-eqb, eqb-true}
 use lib.Dec.{eqb}
 use Rattle.whole.specs.Search.{every}
 use Rattle.whole.proofs.Search.{every_fails}
-use Rattle.refusals.specs.declared.Answer.TheVariants.{Accepted}
-use Rattle.refusals.specs.Checks.{answer}
+use Rattle.refusals.specs.Checks.{accepted, answer}
 use Rattle.layout.specs.Layout.{ramp_positions, ramp_at}
 use Rattle.layout.specs.Corridor.{Corridor, cells_of, row_of, entry_queue_of, count_of, queue_of, last_mode_of}
 use Rattle.accept_ranges.specs.Ranges.{with_ramp, queue_limit}
@@ -19,7 +18,7 @@ use Rattle.refusals.proofs.Answers.{accepted_passes, accepted_both}
 use Rattle.ledger.specs.Calls.{IsAccepted}
 
 module _ (c : Corridor) (e : IsAccepted c) where
-  numbers : answer (state_numbers c) ≡ Accepted
+  numbers : answer (state_numbers c) ≡ accepted
   numbers = (accepted_passes _ _ e).1
 
   pub counts_held : (i : ℕ) → i < cells_of c → count_of c i ≤ (row_of c i).jam
@@ -38,7 +37,7 @@ module _ (c : Corridor) (e : IsAccepted c) where
   pub ramps_held_once : (j k : ℕ) → j < k → k < ramp_positions (cells_of c) → ramp_at c.table j ≡ ramp_at c.table k → ramp_at c.table k ≡ 0
   ramps_held_once j k before inside same = by (eqb (ramp_at c.table k) 0) refl (new k inside)
     where
-      table_passes : answer (table_numbers c.table) ≡ Accepted
+      table_passes : answer (table_numbers c.table) ≡ accepted
       table_passes = (accepted_both (table_numbers c.table) (state_in_range c ∷ []) numbers).0
 
       new : (k : ℕ) → k < ramp_positions (cells_of c) → (eqb (ramp_at c.table k) 0 || every k (λ j. not (eqb (ramp_at c.table j) (ramp_at c.table k)))) ≡ true

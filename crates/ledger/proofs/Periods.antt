@@ -1,4 +1,5 @@
 -- A period is sound, and so are the periods that a run completes. Assumes nothing.
+use Rattle.std.specs.Prelude.{Ok, Err}
 use Prim.Native.Nat.{ℕ, zero, suc, ◌+◌, ◌≤◌, ◌<◌, zero-le}
 use mathlib.Core.Path.{◌≡◌, refl, sym, ◌∙◌}
 use mathlib.Core.Bool.{Bool, true, false, false≢true}
@@ -8,9 +9,7 @@ use lib.Dec.{eqb}
 use Rattle.whole.specs.Search.{pick}
 use Rattle.whole.proofs.Sums.{sum_of_sums, sum_of_equal_terms}
 use Rattle.whole.proofs.Search.{is_first}
-use Rattle.refusals.specs.declared.Answer.{Answer}
-use Rattle.refusals.specs.declared.Answer.TheVariants.{Accepted, Refused}
-use Rattle.refusals.specs.Checks.{answer, when_accepted}
+use Rattle.refusals.specs.Checks.{Answer, accepted, answer, when_accepted}
 use Rattle.layout.specs.Layout.{cells, row_at, on_demand_at}
 use Rattle.layout.specs.Corridor.{Corridor, cells_of, queue_of}
 use Rattle.accept_rows.specs.Vehicles.{at_on_ramp}
@@ -44,12 +43,12 @@ ramp_balance table ramp f g h k each =
 fits : (c : Corridor) → IsAccepted c → state_lengths_fit c ≡ true
 fits c e = (accepted_passes _ _ e).0 0 (omega arith)
 
-numbers : (c : Corridor) → IsAccepted c → answer (state_numbers c) ≡ Accepted
+numbers : (c : Corridor) → IsAccepted c → answer (state_numbers c) ≡ accepted
 numbers c e = (accepted_passes _ _ e).1
 
 module _ (way : Sharing) (fair : Fair way) where
   -- one accepted demand row
-  row_is_sound : (c : Corridor) (demand : List ℕ) → IsAccepted c → answer (demand_numbers c demand) ≡ Accepted → Sound c (corridor_after way c demand) (row_account way c demand)
+  row_is_sound : (c : Corridor) (demand : List ℕ) → IsAccepted c → answer (demand_numbers c demand) ≡ accepted → Sound c (corridor_after way c demand) (row_account way c demand)
   row_is_sound c demand e row =
       let accepted = numbers c e in
       let fit-table = t way fair c demand accepted row in
@@ -70,12 +69,12 @@ module _ (way : Sharing) (fair : Fair way) where
   period_is_sound demand sheet c e = by (answer (period_checks c demand sheet)) refl
     where
       by : (a : Answer) → answer (period_checks c demand sheet) ≡ a → Sound c (when_accepted a (corridor_after way c demand) c) (when_accepted a (row_account way c demand) nothing)
-      by (Refused refusal) h = stays c e
-      by Accepted h = row_is_sound c demand e (accepted_both (state_numbers c) (demand_numbers c demand) (accepted_passes _ _ h).1).1
+      by (Err refusal) h = stays c e
+      by (Ok done) h = row_is_sound c demand e (accepted_both (state_numbers c) (demand_numbers c demand) (accepted_passes _ _ h).1).1
 
-  accepted_is : (a : Answer) → is_accepted a ≡ true → a ≡ Accepted
-  accepted_is Accepted e = refl
-  accepted_is (Refused refusal) e = absurd (false≢true e)
+  accepted_is : (a : Answer) → is_accepted a ≡ true → a ≡ accepted
+  accepted_is (Ok done) e = refl
+  accepted_is (Err refusal) e = absurd (false≢true e)
 
   -- the first k periods of a run
   module _ (c : Corridor) (demand : List ℕ) (e : IsAccepted c) where
@@ -99,5 +98,5 @@ module _ (way : Sharing) (fair : Fair way) where
   run_is_sound demand sheet c e = rows_are_sound c demand e _ (by (answer (run_checks c demand sheet)))
     where
       by : (a : Answer) → when_accepted a (completed way c demand) 0 ≤ completed way c demand
-      by (Refused refusal) = zero-le
-      by Accepted = omega arith
+      by (Err refusal) = zero-le
+      by (Ok done) = omega arith

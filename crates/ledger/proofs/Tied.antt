@@ -1,10 +1,9 @@
 -- The ledger and the promises: whatever a call that a promise allows leaves is what `leaves` says of it. Assumes nothing.
+use Rattle.std.specs.Prelude.{Ok, Err}
 use Prim.Native.Nat.{ℕ, zero, suc}
 use mathlib.Core.Path.{◌≡◌, refl, ap, ◌∙◌}
 use mathlib.Core.List.{List}
-use Rattle.refusals.specs.declared.Answer.{Answer}
-use Rattle.refusals.specs.declared.Answer.TheVariants.{Accepted, Refused}
-use Rattle.refusals.specs.Checks.{Check, answer, when_accepted}
+use Rattle.refusals.specs.Checks.{Answer, Check, answer, when_accepted}
 use Rattle.layout.specs.Corridor.{Corridor, corridor_of}
 use Rattle.period.specs.Sharing.{Sharing}
 use Rattle.period.specs.Period.{state_after, corridor_after, period_checks, PeriodDone}
@@ -22,8 +21,8 @@ module _ (way : Sharing) (c : Corridor) where
   period_leaves {demand} {sheet} done = ap (corridor_of c.table) done.leaves_state ∙ by (answer (period_checks c demand sheet))
     where
       by : (a : Answer) → corridor_of c.table (when_accepted a (state_after way c demand) c.state) ≡ when_accepted a (corridor_after way c demand) c
-      by Accepted = refl
-      by (Refused refusal) = refl
+      by (Ok done) = refl
+      by (Err refusal) = refl
 
   -- so does a run
   same_table : (demand : List ℕ) (k : ℕ) → corridor_of c.table (corridor_after_periods way c demand k).state ≡ corridor_after_periods way c demand k
@@ -41,8 +40,8 @@ module _ (way : Sharing) (c : Corridor) where
   change_leaves new {checks} {made} {list} done = rw (done.answered, done.leaves) (by (answer checks))
     where
       by : (a : Answer) → when_accepted a (corridor_of new (when_accepted a made list)) c ≡ when_accepted a (corridor_of new made) c
-      by Accepted = refl
-      by (Refused refusal) = refl
+      by (Ok done) = refl
+      by (Err refusal) = refl
 
   pub recut_leaves : (pieces new list : List ℕ) {left : List ℕ} {a : Answer} → RecutDone c pieces new list a left
       → when_accepted a (corridor_of new left) c ≡ leaves way (recut pieces new list) c

@@ -1,7 +1,6 @@
 -- Demand 3: a call, what it leaves, and its account, from the definitions that the promises of `period`, `period_run`, `recut` and `join` cite.
 use Rattle.std.specs.Prelude.{ℕ, ◌≡◌, List, [], ◌∷◌}
-use Rattle.refusals.specs.declared.Answer.TheVariants.{Accepted}
-use Rattle.refusals.specs.Checks.{answer, when_accepted}
+use Rattle.refusals.specs.Checks.{accepted, answer, when_accepted}
 use Rattle.layout.specs.Corridor.{Corridor, cells_of, queue_of}
 use Rattle.accept_rows.specs.Vehicles.{at_on_ramp, ramps}
 use Rattle.accept_rows.specs.Acceptance.{state_checks}
@@ -14,7 +13,7 @@ use Rattle.ledger.specs.Account.{Account, nothing, both, total, row_account}
 
 -- a table and a state that are accepted, numbers 1 to 5
 abbrev pub IsAccepted : Corridor → Type 0
-IsAccepted c = answer (state_checks c) ≡ Accepted
+IsAccepted c = answer (state_checks c) ≡ accepted
 
 -- a call with its lists, whatever they are: it may be refused
 pub data Call : Type 0 where

@@ -5,38 +5,35 @@ use mathlib.Core.Bool.{Bool, true, false}
 use native.Mathlib.Omega.{arith}
 use borrow.Author.Tests.{leb-true, eqb-true}
 use lib.Dec.{leb, eqb}
+use Rattle.std.specs.Prelude.{Ok, Err}
 use Rattle.whole.specs.Search.{pick, within}
 use Rattle.whole.proofs.Tests.{both_hold}
-use Rattle.refusals.specs.declared.Answer.{Answer}
-use Rattle.refusals.specs.declared.Answer.TheVariants.{Accepted, Refused}
 use Rattle.refusals.specs.declared.Refusal.TheVariants.{Length}
-use Rattle.refusals.specs.Checks.{answer}
+use Rattle.refusals.specs.Checks.{Answer, accepted, answer}
 use Rattle.layout.specs.Layout.{MOST}
 use Rattle.layout.specs.Corridor.{Corridor}
 use Rattle.accept_rows.specs.Acceptance.{state_checks}
 use Rattle.program_files.specs.Stops.{broken, refused_in}
-use Rattle.program_files.specs.Files.{cells_found, state_found, accepted_then}
+use Rattle.program_files.specs.Files.{File, Found, cells_found, state_found, accepted_then}
 use Rattle.program_files.specs.declared.Stop.{Stop}
-use Rattle.program_files.specs.declared.File.{File}
-use Rattle.program_files.specs.declared.File.TheVariants.{Holds, BrokenAt, Lost}
-use Rattle.program_files.specs.declared.Found.TheVariants.{Go, Halt}
+use Rattle.program_files.specs.declared.Unread.TheVariants.{Broken, Lost}
 
-no_halt : {A : Type 0} (stop : Stop) (n : ℕ) → Halt stop ≡ Go n → A
+no_halt : {A : Type 0} (stop : Stop) (n : ℕ) → ◌≡◌ {A = Found} (Err stop) (Ok n) → A
 no_halt stop n e = absurd (let z : ◌≡◌ {A = ℕ} 0 1 = cc in omega arith)
 
 -- at least 1 cell and at most 512, and the file held as many records
 pub record Cells (file : File) (n : ℕ) : Type 0 where
-  pub held : file ≡ Holds n
+  pub held : file ≡ Ok n
   pub some : 1 ≤ n
   pub most : n ≤ MOST
 
-pub cells_told : (file : File) (n : ℕ) → cells_found file ≡ Go n → Cells file n
+pub cells_told : (file : File) (n : ℕ) → cells_found file ≡ Ok n → Cells file n
 unfolding cells_found
-cells_told Lost n e = no_halt _ n e
-cells_told (BrokenAt place) n e = no_halt _ n e
-cells_told (Holds m) n e = by (within 1 MOST m) refl e
+cells_told (Err Lost) n e = no_halt _ n e
+cells_told (Err (Broken place)) n e = no_halt _ n e
+cells_told (Ok m) n e = by (within 1 MOST m) refl e
   where
-    by : (b : Bool) → within 1 MOST m ≡ b → pick b (Go m) (Halt (refused_in 0 Length)) ≡ Go n → Cells (Holds m) n
+    by : (b : Bool) → within 1 MOST m ≡ b → pick b (Ok m) (Err (refused_in 0 Length)) ≡ Ok n → Cells (Ok m) n
     by false is e = no_halt _ n e
     by true is e =
         let same : m ≡ n = cc in
@@ -45,21 +42,21 @@ cells_told (Holds m) n e = by (within 1 MOST m) refl e
 
 -- one record, and a table and a state that are accepted
 pub record State (file : File) (c : Corridor) : Type 0 where
-  pub held : file ≡ Holds 1
-  pub accepted : answer (state_checks c) ≡ Accepted
+  pub held : file ≡ Ok 1
+  pub accepted : answer (state_checks c) ≡ accepted
 
-then_told : (a : Answer) (n : ℕ) → accepted_then a ≡ Go n → a ≡ Accepted
+then_told : (a : Answer) (n : ℕ) → accepted_then a ≡ Ok n → a ≡ accepted
 unfolding accepted_then
-then_told Accepted n e = refl
-then_told (Refused refusal) n e = no_halt _ n e
+then_told (Ok done) n e = refl
+then_told (Err refusal) n e = no_halt _ n e
 
-pub state_told : (file : File) (c : Corridor) (n : ℕ) → state_found file c ≡ Go n → State file c
+pub state_told : (file : File) (c : Corridor) (n : ℕ) → state_found file c ≡ Ok n → State file c
 unfolding state_found
-state_told Lost c n e = no_halt _ n e
-state_told (BrokenAt place) c n e = no_halt _ n e
-state_told (Holds m) c n e = by (eqb m 0) (eqb m 1) refl e
+state_told (Err Lost) c n e = no_halt _ n e
+state_told (Err (Broken place)) c n e = no_halt _ n e
+state_told (Ok m) c n e = by (eqb m 0) (eqb m 1) refl e
   where
-    by : (none one : Bool) → eqb m 1 ≡ one → pick none (Halt (broken 0 1 2)) (pick one (accepted_then (answer (state_checks c))) (Halt (broken 0 2 2))) ≡ Go n → State (Holds m) c
+    by : (none one : Bool) → eqb m 1 ≡ one → pick none (Err (broken 0 1 2)) (pick one (accepted_then (answer (state_checks c))) (Err (broken 0 2 2))) ≡ Ok n → State (Ok m) c
     by true one is e = no_halt _ n e
     by false false is e = no_halt _ n e
-    by false true is e = record { held = ap Holds (eqb-true m 1 is); accepted = then_told _ n e }
+    by false true is e = record { held = ap Ok (eqb-true m 1 is); accepted = then_told _ n e }

@@ -9,36 +9,29 @@ ghost use Rattle.refusals.specs.Checks.{answer};
 ghost use Rattle.layout.specs.Corridor.{corridor_of};
 ghost use Rattle.accept_rows.specs.Acceptance.{state_checks};
 ghost use Rattle.program_files.specs.Stops.{stop_of, broken, refused_in};
-ghost use Rattle.program_files.specs.Files.{counted, next_index, file_on, file_end, cells_found, state_found, accepted_then, demand_lost};
+ghost use Rattle.program_files.specs.Files.{counted, next_index, standing, file_on, file_end, cells_found, state_found, accepted_then, demand_lost};
 
-use refusals::{Answer, Refusal};
+use refusals::Refusal;
 use text_scans::{Scan, Step};
 
-// How far the records of a file are read.
+// How far the records of a file are read: so many are complete, the next number goes to this index of the list, and the reading stands here.
 #[derive(Clone, Copy)]
-pub enum Reading {
-    // So many records are complete, the next number goes to this index of the list, and the reading stands here.
-    On {
-        records: usize,
-        index: usize,
-        scan: Scan,
-    },
-    // The first record that breaks a rule, counted from 1.
-    Broken(usize),
+pub struct Reading {
+    pub records: usize,
+    pub index: usize,
+    pub scan: Scan,
 }
 
-// A file that is read to its end.
-#[derive(Clone, Copy)]
-pub enum File {
-    // So many records.
-    Holds(usize),
+// Why the records of a file are not read to its end.
+#[derive(Clone, Copy, Debug, PartialEq, Eq)]
+pub enum Unread {
     // The first record that breaks a rule, counted from 1.
-    BrokenAt(usize),
-    // It is missing, or could not be read to its end.
+    Broken(usize),
+    // The file is missing, or could not be read to its end.
     Lost,
 }
 
-// A refusal's line.
+// A refusal's line, which any number, place and file may stand in.
 #[derive(Clone, Copy)]
 pub struct Stop {
     pub period: usize,
@@ -47,23 +40,12 @@ pub struct Stop {
     pub file: u32,
 }
 
-// What a file comes to: the program goes on with so many records, or ends.
-#[derive(Clone, Copy)]
-pub enum Found {
-    Go(usize),
-    Halt(Stop),
-}
-
 // One more, where there is a larger number.
 #[tactic(auto, unfolding(crate::specs::Files::counted))]
 pub fn counted(n: usize) -> usize
     ensures { result ≡ counted n }
 {
-    if n < 18_446_744_073_709_551_615 {
-        n + 1
-    } else {
-        n
-    }
+    n.saturating_add(1)
 }
 
 // Stores a number at an index of the list, where there is one, and answers the next index.
@@ -80,110 +62,109 @@ fn put(list: &mut [u32], index: usize, number: u32) -> usize
 }
 
 // Where the reading of a file begins.
-pub fn start() -> Reading
-    ensures { result ≡ Reading.On 0 0 begin }
+pub fn start() -> Result<Reading, Unread>
+    ensures { result ≡ standing 0 0 begin }
 {
-    Reading::On {
+    Ok(Reading {
         records: 0,
         index: 0,
         scan: text_scans::begin(),
-    }
+    })
 }
 
 // Reads one byte of a file.
 #[tactic(auto, unfolding(crate::specs::Files::file_on, crate::specs::Files::file_of))]
-fn read_byte(byte: u8, fields: usize, reading: Reading, list: &mut [u32]) -> Reading
+fn read_byte(
+    byte: u8,
+    fields: usize,
+    reading: Result<Reading, Unread>,
+    list: &mut [u32],
+) -> Result<Reading, Unread>
     ensures answer { result ≡ (file_on fields reading list.old (byte ∷ [])).0 }
     ensures stores { list.new ≡ (file_on fields reading list.old (byte ∷ [])).1 }
 {
-    match reading {
-        Reading::On {
+    let Reading {
+        records,
+        index,
+        scan,
+    } = reading?;
+    match text_scans::feed(scan, byte, fields) {
+        Step::More(scan) => Ok(Reading {
             records,
             index,
             scan,
-        } => {
-            let step = text_scans::feed(scan, byte, fields);
-            match step {
-                Step::More(next) => Reading::On {
-                    records,
-                    index,
-                    scan: next,
-                },
-                Step::Field {
-                    field: _,
-                    number,
-                    next,
-                } => Reading::On {
-                    records,
-                    index: put(list, index, number),
-                    scan: next,
-                },
-                Step::Complete => Reading::On {
-                    records: counted(records),
-                    index,
-                    scan: text_scans::begin(),
-                },
-                Step::Breaks => Reading::Broken(counted(records)),
-            }
-        }
-        Reading::Broken(place) => Reading::Broken(place),
+        }),
+        Step::Field {
+            field: _,
+            number,
+            next,
+        } => Ok(Reading {
+            records,
+            index: put(list, index, number),
+            scan: next,
+        }),
+        Step::Complete => Ok(Reading {
+            records: counted(records),
+            index,
+            scan: text_scans::begin(),
+        }),
+        Step::Breaks => Err(Unread::Broken(counted(records))),
     }
 }
 
 // Reads a piece of a file of records of so many fields each; their numbers go to the list, one after the other.
-pub fn read_on(chunk: &[u8], fields: usize, reading: Reading, list: &mut [u32]) -> Reading
+pub fn read_on(
+    chunk: &[u8],
+    fields: usize,
+    reading: Result<Reading, Unread>,
+    list: &mut [u32],
+) -> Result<Reading, Unread>
     ensures answer { result ≡ (file_on fields reading list.old chunk.now).0 }
     ensures stores { list.new ≡ (file_on fields reading list.old chunk.now).1 }
 {
     let mut reading = reading;
-    let mut i = 0;
-    while i < chunk.len() {
-        let byte = chunk[i];
-        i += 1;
-        reading = read_byte(byte, fields, reading, list);
+    for byte in chunk {
+        reading = read_byte(*byte, fields, reading, list);
     }
     reading
 }
 
 // The file ends where no last field does: between records, or inside one.
-fn unfinished(records: usize, scan: Scan) -> File
-    ensures { result ≡ pick (untouched scan) (File.Holds records) (File.BrokenAt (counted records)) }
+fn unfinished(records: usize, scan: Scan) -> Result<usize, Unread>
+    ensures { result ≡ pick (untouched scan) (Ok records) (Err (Unread.Broken (counted records))) }
 {
     if text_scans::untouched(scan) {
-        File::Holds(records)
+        Ok(records)
     } else {
-        File::BrokenAt(counted(records))
+        Err(Unread::Broken(counted(records)))
     }
 }
 
 // The file ends. A record that ends with it is complete, and its last number goes to the list.
 #[tactic(auto, unfolding(crate::specs::Files::file_end, crate::specs::Files::end_of))]
-pub fn read_end(fields: usize, reading: Reading, list: &mut [u32]) -> File
+pub fn read_end(
+    fields: usize,
+    reading: Result<Reading, Unread>,
+    list: &mut [u32],
+) -> Result<usize, Unread>
     ensures answer { result ≡ (file_end fields reading list.old).0 }
     ensures stores { list.new ≡ (file_end fields reading list.old).1 }
 {
-    match reading {
-        Reading::On {
-            records,
-            index,
-            scan,
+    let Reading {
+        records,
+        index,
+        scan,
+    } = reading?;
+    match text_scans::feed(scan, b'\r', fields) {
+        Step::Field {
+            field: _,
+            number,
+            next: _,
         } => {
-            let step = text_scans::feed(scan, b'\r', fields);
-            match step {
-                Step::Field {
-                    field: _,
-                    number,
-                    next: _,
-                } => {
-                    put(list, index, number);
-                    File::Holds(counted(records))
-                }
-                Step::More(_) => unfinished(records, scan),
-                Step::Complete => unfinished(records, scan),
-                Step::Breaks => unfinished(records, scan),
-            }
+            put(list, index, number);
+            Ok(counted(records))
         }
-        Reading::Broken(place) => File::BrokenAt(place),
+        Step::More(_) | Step::Complete | Step::Breaks => unfinished(records, scan),
     }
 }
 
@@ -193,8 +174,8 @@ fn stop_of(period: usize, refusal: Refusal, file: u32) -> Stop
 {
     Stop {
         period,
-        place: refusals::place(refusal),
-        number: refusals::number(refusal),
+        place: refusal.place(),
+        number: refusal.number(),
         file,
     }
 }
@@ -215,58 +196,39 @@ pub fn refused_in(period: usize, refusal: Refusal) -> Stop
 
 // What the cells come to: 12 for any of their records, then 1 on N.
 #[tactic(auto, unfolding(crate::specs::Files::cells_found))]
-pub fn cells_found(file: File) -> Found
+pub fn cells_found(file: Result<usize, Unread>) -> Result<usize, Stop>
     ensures { result ≡ cells_found file }
 {
     match file {
-        File::Holds(n) => {
-            if (1 <= n) & (n <= 512) {
-                Found::Go(n)
-            } else {
-                Found::Halt(refused_in(0, Refusal::Length))
-            }
-        }
-        File::BrokenAt(place) => Found::Halt(broken(0, place, 1)),
-        File::Lost => Found::Halt(broken(0, 0, 1)),
+        Ok(n) if 1 <= n && n <= 512 => Ok(n),
+        Ok(_) => Err(refused_in(0, Refusal::Length)),
+        Err(Unread::Broken(place)) => Err(broken(0, place, 1)),
+        Err(Unread::Lost) => Err(broken(0, 0, 1)),
     }
 }
 
 // Numbers 2 to 5.
 #[tactic(auto, unfolding(crate::specs::Files::accepted_then))]
-fn accepted_then(table: &[u32], state: &[u32]) -> Found
+fn accepted_then(table: &[u32], state: &[u32]) -> Result<usize, Stop>
     ensures { result ≡ accepted_then (answer (state_checks (corridor_of table.now state.now))) }
 {
-    let found = accept_rows::accept_state(table, state);
-    match found {
-        Answer::Accepted => Found::Go(1),
-        Answer::Refused(refusal) => Found::Halt(refused_in(0, refusal)),
+    match accept_rows::accept_state(table, state) {
+        Ok(()) => Ok(1),
+        Err(refusal) => Err(refused_in(0, refusal)),
     }
 }
 
 // What the state comes to: 12 for its one record, or one after it, then 2 to 5.
 #[tactic(auto, unfolding(crate::specs::Files::state_found))]
-pub fn state_found(file: File, table: &[u32], state: &[u32]) -> Found
+pub fn state_found(file: Result<usize, Unread>, table: &[u32], state: &[u32]) -> Result<usize, Stop>
     ensures { result ≡ state_found file (corridor_of table.now state.now) }
 {
     match file {
-        File::Holds(n) => {
-            if n == 0 {
-                return Found::Halt(broken(0, 1, 2));
-            }
-            if n == 1 {
-                accepted_then(table, state)
-            } else {
-                Found::Halt(broken(0, 2, 2))
-            }
-        }
-        File::BrokenAt(place) => {
-            if place <= 1 {
-                Found::Halt(broken(0, 1, 2))
-            } else {
-                Found::Halt(broken(0, 2, 2))
-            }
-        }
-        File::Lost => Found::Halt(broken(0, 0, 2)),
+        Ok(1) => accepted_then(table, state),
+        Ok(0) => Err(broken(0, 1, 2)),
+        Err(Unread::Lost) => Err(broken(0, 0, 2)),
+        Err(Unread::Broken(place)) if place <= 1 => Err(broken(0, 1, 2)),
+        Ok(_) | Err(Unread::Broken(_)) => Err(broken(0, 2, 2)),
     }
 }
 

@@ -1,8 +1,7 @@
 -- Rules, "Re-cut": the new state, and what is refused.
 use Rattle.std.specs.Prelude.{ℕ, ◌+◌, ◌-◌, ◌*◌, ◌/◌, ◌%◌, List, eqb}
 use Rattle.whole.specs.Search.{pick}
-use Rattle.refusals.specs.declared.Answer.{Answer}
-use Rattle.refusals.specs.Checks.{Check}
+use Rattle.refusals.specs.Checks.{Answer, Check}
 use Rattle.layout.specs.declared.Cell.{Cell}
 use Rattle.layout.specs.Layout.{cells, row_at, state_of}
 use Rattle.layout.specs.Corridor.{Corridor, corridor_of, row_of, entry_queue_of, count_of, queue_of, last_mode_of}

@@ -5,14 +5,14 @@ ghost use Rattle.std.specs.Prelude.{◌+◌, ◌≤◌, ◌<◌, ◌≡◌, eqb,
 ghost use Rattle.whole.specs.Search.{pick};
 ghost use Rattle.layout.specs.Layout.{MOST};
 ghost use Rattle.layout.specs.Corridor.{corridor_of};
-ghost use Rattle.refusals.specs.Checks.{answer};
+ghost use Rattle.refusals.specs.Checks.{accepted, answer};
 ghost use Rattle.recut.specs.Private.{rest_before, filled, Cuttable};
 ghost use Rattle.recut.specs.Pieces.{next_piece};
 ghost use Rattle.recut.specs.Recut.{divided, by_hand, new_state, recut_checks, RecutDone};
 
 use layout::*;
 use recut_checks::Change;
-use refusals::Answer;
+use refusals::Refusal;
 
 // A piece of an old cell: its cell, its number there, and the sum of J before it.
 #[derive(Clone, Copy)]
@@ -47,8 +47,8 @@ fn divide(all: u64, whole: u32) -> Share
         };
     }
     Share {
-        vehicles: all / (whole as u64),
-        rest: (all % (whole as u64)) as u32,
+        vehicles: all / u64::from(whole),
+        rest: (all % u64::from(whole)) as u32,
     }
 }
 
@@ -57,13 +57,13 @@ fn divide(all: u64, whole: u32) -> Share
 pub fn share_by_hand(n: u32, whole: u32, jam: u32, rest: u32) -> Share
     ensures { result ≡ by_hand n whole jam rest }
 {
-    let product = n as u64 * jam as u64;
+    let product = u64::from(n) * u64::from(jam);
     if whole <= rest {
-        return divide(product + rest as u64, whole);
+        return divide(product + u64::from(rest), whole);
     }
     let own = divide(product, whole);
-    let over = own.rest as u64 + rest as u64;
-    if over < whole as u64 {
+    let over = u64::from(own.rest) + u64::from(rest);
+    if over < u64::from(whole) {
         return Share {
             vehicles: own.vehicles,
             rest: over as u32,
@@ -71,7 +71,7 @@ pub fn share_by_hand(n: u32, whole: u32, jam: u32, rest: u32) -> Share
     }
     Share {
         vehicles: own.vehicles + 1,
-        rest: (over - whole as u64) as u32,
+        rest: (over - u64::from(whole)) as u32,
     }
 }
 
@@ -121,9 +121,9 @@ fn next_piece(pieces: &[u32], piece: Piece, jam: u32) -> Piece
     let cell = piece.cell;
     if piece.number + 1 < pieces[cell] as usize {
         Piece {
-            cell: cell,
+            cell,
             number: piece.number + 1,
-            before: piece.before + jam as u64,
+            before: piece.before + u64::from(jam),
         }
     } else {
         Piece {
@@ -136,7 +136,7 @@ fn next_piece(pieces: &[u32], piece: Piece, jam: u32) -> Piece
 
 // The vehicles, queues and modes of the old cells, shared out among their pieces.
 fn cut(old: &[u32], state: &[u32], pieces: &[u32], new: &[u32], list: &mut [u32])
-    requires { answer (recut_checks (corridor_of old.now state.now) pieces.now new.now list.old) ≡ Answer.Accepted }
+    requires { answer (recut_checks (corridor_of old.now state.now) pieces.now new.now list.old) ≡ accepted }
     ensures { list.new ≡ new_state (corridor_of old.now state.now) pieces.now new.now }
 {
     let n = cells(new);
@@ -146,27 +146,22 @@ fn cut(old: &[u32], state: &[u32], pieces: &[u32], new: &[u32], list: &mut [u32]
         before: 0,
     };
     let mut rest = 0;
-    let mut j = 0;
-    while j < n {
+    for j in 0..n {
         let row = row_at(new, j);
         let filled = fill(old, state, pieces, piece, row.jam, rest);
         put_cell(list, n, j, filled.cell);
         piece = next_piece(pieces, piece, row.jam);
         rest = filled.rest;
-        j += 1;
     }
     put_entry(list, entry_queue(state));
 }
 
 // The re-cut of a table and a state into a new table, with one piece count for each old cell. The new state goes to the list; on a refusal
 // that stays as it came.
-pub fn recut(old: &[u32], state: &[u32], pieces: &[u32], new: &[u32], list: &mut [u32]) -> Answer
+pub fn recut(old: &[u32], state: &[u32], pieces: &[u32], new: &[u32], list: &mut [u32]) -> Result<(), Refusal>
     ensures { RecutDone (corridor_of old.now state.now) pieces.now new.now list.old result list.new }
 {
-    let found = recut_checks::accept(Change::Cut, old, state, pieces, new, list);
-    if let Answer::Refused(refusal) = found {
-        return Answer::Refused(refusal);
-    }
+    recut_checks::accept(Change::Cut, old, state, pieces, new, list)?;
     cut(old, state, pieces, new, list);
-    Answer::Accepted
+    Ok(())
 }

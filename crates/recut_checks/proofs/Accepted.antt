@@ -10,8 +10,7 @@ use lib.ListN.{length}
 use Rattle.whole.proofs.Search.{Passes}
 use Rattle.whole.proofs.Tests.{both_hold}
 use Rattle.refusals.specs.declared.Refusal.{Refusal}
-use Rattle.refusals.specs.declared.Answer.TheVariants.{Accepted}
-use Rattle.refusals.specs.Checks.{Check, answer}
+use Rattle.refusals.specs.Checks.{accepted, Check, answer}
 use Rattle.refusals.proofs.Answers.{accepted_passes, passes_accepted, accepted_both, both_accepted}
 use Rattle.layout.specs.Layout.{MOST, cells, state_length}
 use Rattle.layout.specs.Corridor.{Corridor, cells_of}
@@ -43,7 +42,7 @@ abbrev PassesAll : Check → Type 0
 PassesAll check = Passes check.places check.test
 
 -- where two tables are accepted together, each is by itself
-each_table : (first second : List ℕ) → answer (both_tables first second) ≡ Accepted → (answer (table_numbers first) ≡ Accepted) × (answer (table_numbers second) ≡ Accepted)
+each_table : (first second : List ℕ) → answer (both_tables first second) ≡ accepted → (answer (table_numbers first) ≡ accepted) × (answer (table_numbers second) ≡ accepted)
 each_table first second e =
     let rows = accepted_passes _ _ e in
     let rows' = accepted_passes _ _ rows.1 in
@@ -53,7 +52,7 @@ each_table first second e =
     let ramps' = accepted_passes _ _ ramps.1 in
     (all first rows.0 rooms.0 ramps.0, all second rows'.0 rooms'.0 ramps'.0)
   where
-    all : (table : List ℕ) → PassesAll (rows_in_range table) → PassesAll (rooms_shared table) → PassesAll (ramps_once table) → answer (table_numbers table) ≡ Accepted
+    all : (table : List ℕ) → PassesAll (rows_in_range table) → PassesAll (rooms_shared table) → PassesAll (ramps_once table) → answer (table_numbers table) ≡ accepted
     all table rows rooms ramps =
         passes_accepted (rows_in_range table) _ rows (passes_accepted (rooms_shared table) _ rooms (passes_accepted (ramps_once table) _ ramps refl))
 
@@ -61,8 +60,8 @@ each_table first second e =
 pub record ChangeFits (old : Corridor) (new : List ℕ) : Type 0 where
   pub old_length : table_length_fits old.table ≡ true
   pub new_length : table_length_fits new ≡ true
-  pub new_numbers : answer (table_numbers new) ≡ Accepted
-  pub state_passes : answer (state_numbers old) ≡ Accepted
+  pub new_numbers : answer (table_numbers new) ≡ accepted
+  pub state_passes : answer (state_numbers old) ≡ accepted
   pub old_cells : Between 1 MOST (cells_of old)
   pub new_cells : Between 1 MOST (cells new)
   pub state_len : length old.state ≡ state_length (cells_of old)
@@ -70,7 +69,7 @@ pub record ChangeFits (old : Corridor) (new : List ℕ) : Type 0 where
   pub old_fits : TableFits old.table
   pub new_fits : TableFits new
 
-module _ (old : Corridor) (counts : List ℕ) (many : ℕ) (new list : List ℕ) (e : answer (change_checks old counts many new list) ≡ Accepted) where
+module _ (old : Corridor) (counts : List ℕ) (many : ℕ) (new list : List ℕ) (e : answer (change_checks old counts many new list) ≡ accepted) where
   -- the lengths, of which number 1 asks
   lengths_hold : (table_length_fits old.table ≡ true) × (table_length_fits new ≡ true) × ListsFit old counts many new list
   lengths_hold =
@@ -105,8 +104,8 @@ pub record Fits (old : Corridor) (pieces new whole parts : List ℕ) : Type 0 wh
   pub counts : length pieces ≡ cells whole
   pub pieced : Pieced whole pieces parts
 
-module _ (give : ℕ → Refusal) (old : Corridor) (pieces new list whole parts : List ℕ) (e : answer (with_pieces give old pieces new list whole parts) ≡ Accepted) where
-  each_part : (answer (change_checks old pieces (cells whole) new list) ≡ Accepted) × (answer (pieces_number give whole pieces parts ∷ []) ≡ Accepted)
+module _ (give : ℕ → Refusal) (old : Corridor) (pieces new list whole parts : List ℕ) (e : answer (with_pieces give old pieces new list whole parts) ≡ accepted) where
+  each_part : (answer (change_checks old pieces (cells whole) new list) ≡ accepted) × (answer (pieces_number give whole pieces parts ∷ []) ≡ accepted)
   each_part = accepted_both (change_checks old pieces (cells whole) new list) (pieces_number give whole pieces parts ∷ []) e
 
   pub list_length : length list ≡ state_length (cells new)

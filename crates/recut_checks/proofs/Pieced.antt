@@ -12,7 +12,6 @@ use Rattle.whole.proofs.Search.{Passes, passes_every}
 use Rattle.whole.proofs.Tests.{both_hold}
 use Rattle.layout.specs.Layout.{cells, row_at}
 use Rattle.recut_checks.specs.Pieces.{piece_count, first_piece, jam_before, keeps_on_ramp, keeps_off_ramp, no_other_ramp, pieces_fit, cell_has_pieces, pieces_hold}
-use Rattle.recut_checks.specs.Private.{least_misfit}
 
 -- the sum of J up to and with a piece is that of one piece more
 pub jams_more : (parts : List ℕ) (first k j : ℕ) {before : ℕ} → j ≡ first + k → before ≡ jam_before parts first k → before + (row_at parts j).jam ≡ jam_before parts first (k + 1)
@@ -64,11 +63,3 @@ pieced whole pieces parts all =
       sums = eqb-true (first_piece pieces (cells whole)) (cells parts) (all 0 (omega arith));
       each = λ i h. cell_pieces whole pieces parts i (all (suc i) (omega arith));
     }
-
--- the least place: 0 where the counts do not sum, else that of the least cell, counted from 1
-module _ (whole pieces parts : List ℕ) {sums : Bool} (is : sums ≡ eqb (first_piece pieces (cells whole)) (cells parts)) where
-  pub counts_fail : not sums ≡ true → 0 ≡ least_misfit whole pieces parts
-  counts_fail fail = rw (add-one (cells whole), sym is ∙ not-true _ fail)
-
-  pub cell_found : {i : ℕ} → not sums ≡ false → i ≡ first_failing (cells whole) (cell_has_pieces whole pieces parts) → i + 1 ≡ least_misfit whole pieces parts
-  cell_found {i} hold found = rw (add-one (cells whole), add-one i, sym is ∙ not-false _ hold) (ap suc found)

@@ -3,8 +3,7 @@
 use Rattle.std.specs.Prelude.{ℕ, ◌≡◌, Bool, ◌&&◌, List, [], ◌∷◌, ◌++◌, eqb, length}
 use Rattle.refusals.specs.declared.Refusal.{Refusal}
 use Rattle.refusals.specs.declared.Refusal.TheVariants.{Pieces, Groups}
-use Rattle.refusals.specs.declared.Answer.{Answer}
-use Rattle.refusals.specs.Checks.{Check, answer, when_accepted, lengths}
+use Rattle.refusals.specs.Checks.{Answer, Check, answer, when_accepted, lengths}
 use Rattle.layout.specs.Layout.{cells, state_length}
 use Rattle.layout.specs.Corridor.{Corridor, cells_of}
 use Rattle.accept_tables.specs.Tables.{table_length_fits, both_tables}

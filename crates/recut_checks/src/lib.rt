@@ -1,23 +1,46 @@
 // What a re-cut and a join ask: numbers 1 to 5 of their lists, and that the cells of one table are the pieces of the other's.
 #![tactic(auto)]
 
-ghost use Rattle.std.specs.Prelude.{◌≡◌};
+ghost use Rattle.std.specs.Prelude.{◌≡◌, [], ◌∷◌};
 ghost use Rattle.layout.specs.Layout.{cells};
 ghost use Rattle.layout.specs.Corridor.{corridor_of};
 ghost use Rattle.refusals.specs.Checks.{answer};
+ghost use Rattle.recut_checks.specs.Pieces.{pieces_number};
 ghost use Rattle.recut_checks.specs.Change.{whole_of, parts_of, refusal_of, change_lists_fit, change_checks, checks_of};
-ghost use Rattle.recut_checks.specs.Private.{least_misfit};
 
 mod pieces;
 
 use layout::{cells, state_length};
-use refusals::{Answer, Refusal};
+use refusals::Refusal;
 
 // How the cells of a table change: they are cut into pieces, or they are pieces and are joined.
 #[derive(Clone, Copy)]
 pub enum Change {
     Cut,
     Join,
+}
+
+impl Change {
+    // The table of the whole cells and that of their pieces: of a cut the old cells are the whole ones, of a join the new ones.
+    fn sides<'a>(self, old: &'a [u32], new: &'a [u32]) -> (&'a [u32], &'a [u32])
+        ensures whole { result.0.now ≡ whole_of self old.now new.now }
+        ensures parts { result.1.now ≡ parts_of self old.now new.now }
+    {
+        match self {
+            Change::Cut => (old, new),
+            Change::Join => (new, old),
+        }
+    }
+
+    // The refusal of pieces at a place.
+    fn refusal(self, place: usize) -> Refusal
+        ensures { result ≡ refusal_of self place }
+    {
+        match self {
+            Change::Cut => Refusal::Pieces(place),
+            Change::Join => Refusal::Groups(place),
+        }
+    }
 }
 
 // Number 1 of the lists under the two tables.
@@ -44,58 +67,37 @@ fn accept_lists(
     many: usize,
     new: &[u32],
     list: &[u32],
-) -> Answer
+) -> Result<(), Refusal>
     ensures { result ≡ answer (change_checks (corridor_of old.now state.now) counts.now many new.now list.now) }
 {
     if !change_lists_fit(old, state, counts, many, new, list) {
-        return Answer::Refused(Refusal::Length);
+        return Err(Refusal::Length);
     }
-    let tables = accept_tables::accept_both(old, new);
-    if let Answer::Refused(refusal) = tables {
-        return Answer::Refused(refusal);
-    }
+    accept_tables::accept_both(old, new)?;
     accept_rows::accept_state_alone(old, state)
 }
 
-// The least place where the cells of the second table are not the pieces of those of the first by the rules: 0 for the sum of the counts,
-// or a whole cell, counted from 1. It is past the last cell where there is none.
-fn misfit(whole: &[u32], pieces: &[u32], parts: &[u32]) -> usize
-    ensures { result ≡ least_misfit whole.now pieces.now parts.now }
+// Number 8 or 14: the counts sum to the number of pieces, at place 0, and each whole cell has its pieces by the rules.
+fn pieces_number(
+    change: Change,
+    whole: &[u32],
+    counts: &[u32],
+    parts: &[u32],
+) -> Result<(), Refusal>
+    ensures { result ≡ answer (pieces_number (refusal_of change) whole.now counts.now parts.now ∷ []) }
 {
-    if !pieces::counts_sum(pieces, cells(whole), cells(parts)) {
-        return 0;
+    let n = cells(whole);
+    if !pieces::counts_sum(counts, n, cells(parts)) {
+        return Err(change.refusal(0));
     }
-    pieces::cells_have_pieces(whole, pieces, parts) + 1
-}
-
-// The number of whole cells: of a cut they are the old ones, of a join the new ones.
-fn whole_cells(change: Change, old: &[u32], new: &[u32]) -> usize
-    ensures { result ≡ cells (whole_of change old.now new.now) }
-{
-    match change {
-        Change::Cut => cells(old),
-        Change::Join => cells(new),
+    let mut first = 0;
+    for i in 0..n {
+        if !pieces::cell_has_pieces(whole, counts, parts, i, first) {
+            return Err(change.refusal(i + 1));
+        }
+        first += pieces::piece_count(counts, i);
     }
-}
-
-// The least place where a change breaks the rules of pieces.
-fn misfit_of(change: Change, old: &[u32], counts: &[u32], new: &[u32]) -> usize
-    ensures { result ≡ least_misfit (whole_of change old.now new.now) counts.now (parts_of change old.now new.now) }
-{
-    match change {
-        Change::Cut => misfit(old, counts, new),
-        Change::Join => misfit(new, counts, old),
-    }
-}
-
-// The refusal of pieces at a place.
-fn refusal_of(change: Change, place: usize) -> Refusal
-    ensures { result ≡ refusal_of change place }
-{
-    match change {
-        Change::Cut => Refusal::Pieces(place),
-        Change::Join => Refusal::Groups(place),
-    }
+    Ok(())
 }
 
 // Whether a re-cut or a join is accepted: numbers 1 to 5, and 8 or 14. There is a count for each whole cell.
@@ -106,17 +108,10 @@ pub fn accept(
     counts: &[u32],
     new: &[u32],
     list: &[u32],
-) -> Answer
+) -> Result<(), Refusal>
     ensures { result ≡ answer (checks_of change (corridor_of old.now state.now) counts.now new.now list.now) }
 {
-    let n = whole_cells(change, old, new);
-    let found = accept_lists(old, state, counts, n, new, list);
-    if let Answer::Refused(refusal) = found {
-        return Answer::Refused(refusal);
-    }
-    let at = misfit_of(change, old, counts, new);
-    if at <= n {
-        return Answer::Refused(refusal_of(change, at));
-    }
-    Answer::Accepted
+    let (whole, parts) = change.sides(old, new);
+    accept_lists(old, state, counts, cells(whole), new, list)?;
+    pieces_number(change, whole, counts, parts)
 }

@@ -6,10 +6,8 @@ use native.Mathlib.Nat.{add-zero}
 use native.Mathlib.Numerals.{add-one}
 use native.Mathlib.Omega.{arith}
 use lib.ListN.{length}
-use Rattle.refusals.specs.declared.Answer.{Answer}
-use Rattle.refusals.specs.declared.Answer.TheVariants.{Accepted}
 use Rattle.refusals.specs.declared.Refusal.TheVariants.{Pieces, Groups}
-use Rattle.refusals.specs.Checks.{answer, when_accepted}
+use Rattle.refusals.specs.Checks.{Answer, accepted, answer, when_accepted}
 use Rattle.refusals.proofs.Answers.{accepted_passes}
 use Rattle.layout.specs.Layout.{cells, state_length}
 use Rattle.layout.specs.Corridor.{Corridor, cells_of, count_of, queue_of, last_mode_of}
@@ -64,7 +62,7 @@ module _ (old : Corridor) (pieces new : List ℕ) (known : CutFits old pieces ne
   cut = new_corridor old pieces new
 
   -- what the cut left fits a join under a table that keeps the cells
-  module _ (table : List ℕ) (accepted : answer (table_checks table) ≡ Accepted) (keeps : KeepsCells old.table table) where
+  module _ (table : List ℕ) (accepted : answer (table_checks table) ≡ accepted) (keeps : KeepsCells old.table table) where
     joins_again : JoinFits (new_corridor old pieces new) pieces table
     joins_again =
         let change = known.change in
@@ -152,23 +150,23 @@ module _ (old : Corridor) (pieces new : List ℕ) (known : CutFits old pieces ne
 
 -- the cut state, joined by the same pieces, is accepted under any accepted table that keeps the cells
 pub cut_then_join_is_accepted : (old : Corridor) (pieces new list table back : List ℕ)
-    → answer (recut_checks old pieces new list) ≡ Accepted → answer (table_checks table) ≡ Accepted → KeepsCells old.table table
-    → length back ≡ state_length (cells table) → answer (join_checks (new_corridor old pieces new) pieces table back) ≡ Accepted
+    → answer (recut_checks old pieces new list) ≡ accepted → answer (table_checks table) ≡ accepted → KeepsCells old.table table
+    → length back ≡ state_length (cells table) → answer (join_checks (new_corridor old pieces new) pieces table back) ≡ accepted
 cut_then_join_is_accepted old pieces new list table back e accepted keeps len =
     what_fits_is_accepted Groups (new_corridor old pieces new) pieces table back table new
     (joins_again old pieces new (fits Pieces old pieces new list old.table new e) table accepted keeps)
     len
 
 -- and gives back the state
-pub cut_then_join_gives_back : (old : Corridor) (pieces new list table : List ℕ) → answer (recut_checks old pieces new list) ≡ Accepted
+pub cut_then_join_gives_back : (old : Corridor) (pieces new list table : List ℕ) → answer (recut_checks old pieces new list) ≡ accepted
     → cells table ≡ cells_of old → joined_state (new_corridor old pieces new) pieces table ≡ old.state
 cut_then_join_gives_back old pieces new list table e = gives_back old pieces new (fits Pieces old pieces new list old.table new e) table
 
 -- so any join that keeps its promise answers Accepted and leaves the state that was cut
 pub cut_then_join_leaves_the_state : (old : Corridor) (pieces new list table back : List ℕ)
-    → answer (recut_checks old pieces new list) ≡ Accepted → answer (table_checks table) ≡ Accepted → KeepsCells old.table table
+    → answer (recut_checks old pieces new list) ≡ accepted → answer (table_checks table) ≡ accepted → KeepsCells old.table table
     → length back ≡ state_length (cells table) → (a : Answer) (left : List ℕ)
-    → JoinDone (new_corridor old pieces new) pieces table back a left → (a ≡ Accepted) × (left ≡ old.state)
+    → JoinDone (new_corridor old pieces new) pieces table back a left → (a ≡ accepted) × (left ≡ old.state)
 cut_then_join_leaves_the_state old pieces new list table back e accepted keeps len a left done =
     let so = cut_then_join_is_accepted old pieces new list table back e accepted keeps len in
     let state = joined_state (new_corridor old pieces new) pieces table in

@@ -8,8 +8,7 @@ use borrow.Author.Tests.{eq-eqb, ne_eqb}
 use lib.ListN.{length}
 use Rattle.whole.proofs.Search.{Passes, every_passes}
 use Rattle.refusals.specs.declared.Refusal.{Refusal}
-use Rattle.refusals.specs.declared.Answer.TheVariants.{Accepted}
-use Rattle.refusals.specs.Checks.{answer}
+use Rattle.refusals.specs.Checks.{accepted, answer}
 use Rattle.refusals.proofs.Answers.{accepted_passes, passes_accepted, accepted_both, both_accepted, lengths_passed}
 use Rattle.layout.specs.Layout.{cells, row_at, state_length, entry_queue, count_at, queue_at, last_mode_at, state_columns, state_of}
 use Rattle.layout.specs.Corridor.{Corridor, entry_queue_of}
@@ -39,8 +38,8 @@ module _ (whole pieces parts : List ℕ) where
   pieced_holds known (suc i) h = cell_holds i (known.each i (omega arith))
 
 -- two tables that are accepted, each by itself, are accepted together
-both_tables_lem : (first second : List ℕ) → answer (table_numbers first) ≡ Accepted → answer (table_numbers second) ≡ Accepted
-    → answer (both_tables first second) ≡ Accepted
+both_tables_lem : (first second : List ℕ) → answer (table_numbers first) ≡ accepted → answer (table_numbers second) ≡ accepted
+    → answer (both_tables first second) ≡ accepted
 both_tables_lem first second e e' =
     let rows = accepted_passes (rows_in_range first) _ e in
     let rows' = accepted_passes (rows_in_range second) _ e' in
@@ -56,7 +55,7 @@ both_tables_lem first second e e' =
 
 -- the other way round of `fits`
 pub what_fits_is_accepted : (give : ℕ → Refusal) (old : Corridor) (pieces new list whole parts : List ℕ) → Fits old pieces new whole parts
-    → length list ≡ state_length (cells new) → answer (with_pieces give old pieces new list whole parts) ≡ Accepted
+    → length list ≡ state_length (cells new) → answer (with_pieces give old pieces new list whole parts) ≡ accepted
 what_fits_is_accepted give old pieces new list whole parts known len =
     let change = known.change in
     let state = accepted_both (table_numbers old.table) (state_in_range old ∷ []) change.state_passes in
@@ -65,7 +64,7 @@ what_fits_is_accepted give old pieces new list whole parts known len =
     (lengths_passed (both_tables old.table new ++ (state_in_range old ∷ []))
     (rw (change.old_length, change.new_length, eq-eqb _ _ change.state_len, eq-eqb _ _ known.counts, eq-eqb _ _ len))
     ∙ both_accepted (both_tables old.table new) (state_in_range old ∷ []) tables state.1)
-    (passes_accepted (pieces_number give whole pieces parts) Accepted (pieced_holds whole pieces parts known.pieced) refl)
+    (passes_accepted (pieces_number give whole pieces parts) accepted (pieced_holds whole pieces parts known.pieced) refl)
 
 -- a list of the length with that entry queue, those counts, those queues and those modes is the joined state
 module _ (old : Corridor) (groups new list : List ℕ) where

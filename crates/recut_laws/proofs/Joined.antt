@@ -10,8 +10,7 @@ use Rattle.whole.specs.Sums.{sum}
 use Rattle.whole.specs.Search.{pick}
 use Rattle.whole.proofs.Search.{Passes}
 use Rattle.whole.proofs.Sums.{sum_more}
-use Rattle.refusals.specs.declared.Answer.TheVariants.{Accepted}
-use Rattle.refusals.specs.Checks.{answer}
+use Rattle.refusals.specs.Checks.{accepted, answer}
 use Rattle.refusals.proofs.Answers.{both_accepted, passes_accepted}
 use Rattle.layout.specs.Layout.{cells, row_at, state_length}
 use Rattle.layout.specs.Corridor.{Corridor, cells_of, row_of, entry_queue_of, count_of, queue_of, last_mode_of, cell_of}
@@ -127,7 +126,7 @@ module _ (old : Corridor) (groups new : List ℕ) (known : JoinFits old groups n
       (record { count = rw (joined_count j below) (group_fits known j below); queue = queue_stays_within j below; mode = mode_stays_within j below })
 
   -- the new state is accepted under the new table
-  pub joined_state_is_accepted : answer (state_numbers (joined_corridor old groups new)) ≡ Accepted
+  pub joined_state_is_accepted : answer (state_numbers (joined_corridor old groups new)) ≡ accepted
   joined_state_is_accepted =
       both_accepted (table_numbers new) (state_in_range joined ∷ []) known.change.new_numbers
-      (passes_accepted (state_in_range joined) Accepted stays_in_range refl)
+      (passes_accepted (state_in_range joined) accepted stays_in_range refl)

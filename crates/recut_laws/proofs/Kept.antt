@@ -11,8 +11,7 @@ use lib.ListN.{length}
 use Rattle.whole.specs.Sums.{sum}
 use Rattle.whole.specs.Search.{pick}
 use Rattle.whole.proofs.Search.{Passes}
-use Rattle.refusals.specs.declared.Answer.TheVariants.{Accepted}
-use Rattle.refusals.specs.Checks.{answer}
+use Rattle.refusals.specs.Checks.{accepted, answer}
 use Rattle.refusals.proofs.Answers.{both_accepted, passes_accepted}
 use Rattle.layout.specs.Layout.{cells, row_at, state_length}
 use Rattle.layout.specs.Corridor.{Corridor, cells_of, row_of, entry_queue_of, count_of, queue_of, last_mode_of, cell_of}
@@ -144,7 +143,7 @@ module _ (old : Corridor) (pieces new : List ℕ) (known : CutFits old pieces ne
       (record { count = piece_holds_at_most_its_jam j below; queue = queue_stays_within j below; mode = mode_stays_within j below })
 
   -- the new state is accepted under the new table
-  pub new_state_is_accepted : answer (state_numbers (new_corridor old pieces new)) ≡ Accepted
+  pub new_state_is_accepted : answer (state_numbers (new_corridor old pieces new)) ≡ accepted
   new_state_is_accepted =
       both_accepted (table_numbers new) (state_in_range cut ∷ []) known.change.new_numbers
-      (passes_accepted (state_in_range cut) Accepted stays_in_range refl)
+      (passes_accepted (state_in_range cut) accepted stays_in_range refl)

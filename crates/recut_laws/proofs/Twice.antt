@@ -13,9 +13,8 @@ use Rattle.whole.specs.Sums.{sum}
 use Rattle.whole.proofs.Sums.{sum_grows, sum_of_equal_terms}
 use Rattle.whole.proofs.Tests.{both_same}
 use Rattle.whole.proofs.Lists.{build-length, build_at}
-use Rattle.refusals.specs.declared.Answer.TheVariants.{Accepted}
 use Rattle.refusals.specs.declared.Refusal.TheVariants.{Groups}
-use Rattle.refusals.specs.Checks.{answer}
+use Rattle.refusals.specs.Checks.{accepted, answer}
 use Rattle.layout.specs.Layout.{cells, row_at, state_length}
 use Rattle.layout.specs.Corridor.{Corridor, count_of, queue_of, last_mode_of}
 use Rattle.recut_checks.specs.Pieces.{piece_count, first_piece, jam_before}
@@ -258,9 +257,9 @@ module _ (old : Corridor) (first middle second new : List ℕ) (known : JoinFits
 
 -- two joins in turn are accepted as one, by the sizes added up, and leave the same state
 pub two_joins_are_one : (old : Corridor) (first middle list₁ second new list₂ list : List ℕ)
-    → answer (join_checks old first middle list₁) ≡ Accepted → answer (join_checks (joined_corridor old first middle) second new list₂) ≡ Accepted
+    → answer (join_checks old first middle list₁) ≡ accepted → answer (join_checks (joined_corridor old first middle) second new list₂) ≡ accepted
     → length list ≡ state_length (cells new)
-    → (answer (join_checks old (added_up first second) new list) ≡ Accepted)
+    → (answer (join_checks old (added_up first second) new list) ≡ accepted)
     × (joined_state old (added_up first second) new ≡ joined_state (joined_corridor old first middle) second new)
 two_joins_are_one old first middle list₁ second new list₂ list e e' len =
     let known = fits Groups old first middle list₁ middle old.table e in

@@ -7,10 +7,12 @@ use native.Mathlib.Omega.{arith}
 use borrow.Author.Tests.{lt-ltb, le-ltb, ltb-false, not-true, not-false}
 use lib.Dec.{ltb}
 use Rattle.whole.specs.Search.{pick}
-use Rattle.whole.proofs.Search.{Passes, all_pass, none_fails}
+use Rattle.whole.proofs.Search.{FirstFailing, Passes, first_is, all_pass, none_fails}
 use Rattle.refusals.specs.declared.Refusal.{Refusal}
 use Rattle.refusals.specs.declared.Refusal.TheVariants.{Length}
-use Rattle.std.specs.Prelude.{Ok, Err}
+use Rattle.std.specs.Prelude.{Some, None, Ok, Err}
+use Rattle.std.specs.Result.{IsErr, IsErrAnd}
+use Rattle.std.proofs.lemmas.Result.{err_from_is_err_and}
 use Rattle.refusals.specs.Checks.{Answer, accepted, Check, least, or_later, answer, lengths}
 
 pub refused_is_not_accepted : (refusal : Refusal) → Err refusal ≡ accepted → ⊥
@@ -25,6 +27,13 @@ stops check later e h = rw (lt-ltb (least check) check.places (rw e at h)) (ap (
 pub passes : (check : Check) {a later : Answer} {at : ℕ} → at ≡ least check → check.places ≤ at → a ≡ later → a ≡ or_later check later
 unfolding or_later
 passes check e h next = rw (le-ltb (least check) check.places (rw e at h)) next
+
+-- the same of a check by itself, whose places a search went over
+pub first_refused : (check : Check) {at : ℕ} → FirstFailing check.places check.test (Some at) → Err (check.refusal at) ≡ answer (check ∷ [])
+first_refused check found = stops check accepted found.is.0 found.is.1
+
+pub none_refused : (check : Check) → FirstFailing check.places check.test None → accepted ≡ answer (check ∷ [])
+none_refused check all = passes check refl all.is refl
 
 -- the same from the answer of one check by itself
 pub one_stops : (check : Check) (later : Answer) {refusal : Refusal} → Err refusal ≡ answer (check ∷ []) → Err refusal ≡ or_later check later
@@ -43,6 +52,10 @@ one_passes check {a} {later} e next = by (ltb (least check) check.places) e
     by true e = absurd (refused_is_not_accepted (check.refusal (least check)) (sym e))
     by false e = next
 
+-- what a `?` returns is the refusal that the call before it gave
+pub handed_on : {a b : Answer} {refusal : Refusal} → IsErr a × IsErrAnd a (λ e. e ≡ refusal) → Err refusal ≡ b → a ≡ b
+handed_on {a} told e = let left = err_from_is_err_and a told.1 in left.1 ∙ ap Err left.2 ∙ e
+
 -- r tells whether the lengths fit
 pub lengths_fail : (later : Answer) {fit r : Bool} → r ≡ fit → not r ≡ true → Err Length ≡ or_later (lengths fit) later
 unfolding or_later
@@ -51,6 +64,9 @@ lengths_fail later e h = rw (sym e ∙ not-true _ h)
 pub lengths_fit_lem : {a later : Answer} {fit r : Bool} → r ≡ fit → not r ≡ false → a ≡ later → a ≡ or_later (lengths fit) later
 unfolding or_later
 lengths_fit_lem e h next = rw (sym e ∙ not-false _ h) next
+
+-- what answers the checks in their order, each by a call and a `?`
+pub ruleset in_their_order = (handed_on, one_stops, one_passes, lengths_fail, lengths_fit_lem)
 
 -- one more length to fit: where it does, the others decide, and where it does not, number 1 is given
 pub length_fits_too : (checks : List Check) (others : Bool) {more : Bool} → more ≡ true → answer (lengths (others && more) ∷ checks) ≡ answer (lengths others ∷ checks)
@@ -110,3 +126,12 @@ both_accepted first later e f = sym (accepted_goes_on first later (sym e) (sym f
 -- lengths that fit leave the answer to the checks after them
 pub lengths_passed : (checks : List Check) {fit : Bool} → fit ≡ true → answer (lengths fit ∷ checks) ≡ answer checks
 lengths_passed checks e = sym (lengths_fit_lem {r = true} (sym e) refl refl)
+
+-- The same of a loop over a check's places, in turn, that leaves at the first that fails: what stops it, and what it ends with.
+
+pub check_fails : (check : Check) {at : ℕ} → at < check.places → Passes at check.test → check.test at ≡ false → Err (check.refusal at) ≡ answer (check ∷ [])
+check_fails check {at} h before fails =
+    stops check accepted (first_is check.places check.test at (record { reaches = omega arith; before = before; fails = λ _. fails })) h
+
+pub check_passes : (check : Check) → Passes check.places check.test → accepted ≡ answer (check ∷ [])
+check_passes check all = passes check refl (none_fails_reaches check all) refl

@@ -1,5 +1,6 @@
 -- Each list of checks that a public promise is made of gives the lowest number that applies, at its smallest place; where one number is asked of two
 -- tables in turn, the lowest number. Assumes nothing.
+use Rattle.std.specs.Prelude.{Err}
 use Prim.Native.Nat.{ℕ, ◌≤◌}
 use mathlib.Core.Path.{◌≡◌, refl}
 use mathlib.Core.Bool.{Bool, ◌&&◌}
@@ -10,7 +11,6 @@ use lib.Ieee.{Float}
 use lib.ListN.{length}
 use Rattle.refusals.specs.declared.Refusal.{Refusal}
 use Rattle.refusals.specs.declared.Refusal.TheVariants.{Pieces, Groups}
-use Rattle.refusals.specs.declared.Answer.TheVariants.{Refused}
 use Rattle.refusals.specs.Checks.{Check, lengths, answer}
 use Rattle.layout.specs.Layout.{cells}
 use Rattle.layout.specs.Sheet.{sheet_length}
@@ -77,12 +77,12 @@ module _ (fit : Bool) (c : Corridor) where
   abbrev to_five : List Check
   to_five = lengths fit ∷ state_numbers c
 
-  one_to_five : {refusal : Refusal} → answer to_five ≡ Refused refusal → SmallestPlace to_five refusal
+  one_to_five : {refusal : Refusal} → answer to_five ≡ Err refusal → SmallestPlace to_five refusal
   one_to_five =
       smallest_place 1 (1 ∷ 2 ∷ 3 ∷ 4 ∷ 5 ∷ []) to_five
       (omega arith, (one fit, (omega arith, (two c.table, (omega arith, (three c.table, (omega arith, (four c.table, (omega arith, (five c, tt))))))))))
 
-  one_to_seven : (demand : List ℕ) {refusal : Refusal} → answer (to_five ++ demand_numbers c demand) ≡ Refused refusal → SmallestPlace (to_five ++ demand_numbers c demand) refusal
+  one_to_seven : (demand : List ℕ) {refusal : Refusal} → answer (to_five ++ demand_numbers c demand) ≡ Err refusal → SmallestPlace (to_five ++ demand_numbers c demand) refusal
   one_to_seven demand =
       smallest_place 1 (1 ∷ 2 ∷ 3 ∷ 4 ∷ 5 ∷ 6 ∷ 7 ∷ []) (to_five ++ demand_numbers c demand) (
         omega arith,
@@ -118,50 +118,50 @@ module _ (fit : Bool) (c : Corridor) where
 
 -- The lists, each with its numbers.
 
-pub table_lowest : (table : List ℕ) {refusal : Refusal} → answer (table_checks table) ≡ Refused refusal → SmallestPlace (table_checks table) refusal
+pub table_lowest : (table : List ℕ) {refusal : Refusal} → answer (table_checks table) ≡ Err refusal → SmallestPlace (table_checks table) refusal
 table_lowest table =
     smallest_place 1 (1 ∷ 2 ∷ 3 ∷ 4 ∷ []) (table_checks table)
     (omega arith, (one _, (omega arith, (two table, (omega arith, (three table, (omega arith, (four table, tt))))))))
 
 -- of two tables in turn the number is the lowest
-pub both_tables_lowest : (first second : List ℕ) {refusal : Refusal} → answer (both_tables_checks first second) ≡ Refused refusal → LowestNumber (both_tables_checks first second) refusal
+pub both_tables_lowest : (first second : List ℕ) {refusal : Refusal} → answer (both_tables_checks first second) ≡ Err refusal → LowestNumber (both_tables_checks first second) refusal
 both_tables_lowest first second =
     lowest_number 1 (1 ∷ 2 ∷ 2 ∷ 3 ∷ 3 ∷ 4 ∷ 4 ∷ []) (both_tables_checks first second)
     (omega arith, (one _, (omega arith, (two first, (omega arith, (two second, (omega arith, (three first, (omega arith, (three second, (omega arith, (four first, (omega arith, (four second, tt))))))))))))))
 
 module _ (c : Corridor) {refusal : Refusal} where
-  pub state_lowest : answer (state_checks c) ≡ Refused refusal → SmallestPlace (state_checks c) refusal
+  pub state_lowest : answer (state_checks c) ≡ Err refusal → SmallestPlace (state_checks c) refusal
   state_lowest = one_to_five (state_lengths_fit c) c
 
-  pub state_alone_lowest : answer (state_alone_checks c) ≡ Refused refusal → SmallestPlace (state_alone_checks c) refusal
+  pub state_alone_lowest : answer (state_alone_checks c) ≡ Err refusal → SmallestPlace (state_alone_checks c) refusal
   state_alone_lowest = smallest_place 1 (1 ∷ 5 ∷ []) (state_alone_checks c) (omega arith, (one _, (omega arith, (five c, tt))))
 
-  pub run_lowest : (demand sheet : List ℕ) → answer (run_checks c demand sheet) ≡ Refused refusal → SmallestPlace (run_checks c demand sheet) refusal
+  pub run_lowest : (demand sheet : List ℕ) → answer (run_checks c demand sheet) ≡ Err refusal → SmallestPlace (run_checks c demand sheet) refusal
   run_lowest demand sheet = one_to_five (state_lengths_fit c && run_lists_fit (cells_of c) demand sheet) c
 
-  pub follow_lowest : (row sheet out : List ℕ) → answer (follow_checks c row sheet out) ≡ Refused refusal → SmallestPlace (follow_checks c row sheet out) refusal
+  pub follow_lowest : (row sheet out : List ℕ) → answer (follow_checks c row sheet out) ≡ Err refusal → SmallestPlace (follow_checks c row sheet out) refusal
   unfolding follow_checks
   follow_lowest row sheet out = one_to_five (state_lengths_fit c && follow_lists_fit (cells_of c) row sheet out) c
 
   module _ (demand : List ℕ) where
-    pub demand_lowest : answer (demand_checks c demand) ≡ Refused refusal → SmallestPlace (demand_checks c demand) refusal
+    pub demand_lowest : answer (demand_checks c demand) ≡ Err refusal → SmallestPlace (demand_checks c demand) refusal
     demand_lowest =
         smallest_place 1 (1 ∷ 6 ∷ 7 ∷ []) (demand_checks c demand)
         (omega arith, (one _, (omega arith, (six c demand, (omega arith, (seven c demand, tt))))))
 
     -- 6 and 7 at a row of a run
-    pub row_of_a_run_lowest : answer (demand_numbers c demand) ≡ Refused refusal → SmallestPlace (demand_numbers c demand) refusal
+    pub row_of_a_run_lowest : answer (demand_numbers c demand) ≡ Err refusal → SmallestPlace (demand_numbers c demand) refusal
     row_of_a_run_lowest = smallest_place 6 (6 ∷ 7 ∷ []) (demand_numbers c demand) (omega arith, (six c demand, (omega arith, (seven c demand, tt))))
 
-    pub row_lowest : answer (row_checks c demand) ≡ Refused refusal → SmallestPlace (row_checks c demand) refusal
+    pub row_lowest : answer (row_checks c demand) ≡ Err refusal → SmallestPlace (row_checks c demand) refusal
     row_lowest = one_to_seven (row_lengths_fit c demand) c demand
 
-    pub period_lowest : (sheet : List ℕ) → answer (period_checks c demand sheet) ≡ Refused refusal → SmallestPlace (period_checks c demand sheet) refusal
+    pub period_lowest : (sheet : List ℕ) → answer (period_checks c demand sheet) ≡ Err refusal → SmallestPlace (period_checks c demand sheet) refusal
     period_lowest sheet = one_to_seven (row_lengths_fit c demand && eqb (length sheet) (sheet_length (cells_of c))) c demand
 
   -- of two tables in turn the number is the lowest, and a last one comes after 5
   change_lowest : (counts : List ℕ) (many : ℕ) (new list : List ℕ) {last : Check} {number : ℕ} → 5 ≤ number → Numbered number last
-      → let checks = change_checks c counts many new list ++ (last ∷ []) in answer checks ≡ Refused refusal → LowestNumber checks refusal
+      → let checks = change_checks c counts many new list ++ (last ∷ []) in answer checks ≡ Err refusal → LowestNumber checks refusal
   change_lowest counts many new list {last} {number} after numbered =
       lowest_number 1 (1 ∷ 2 ∷ 2 ∷ 3 ∷ 3 ∷ 4 ∷ 4 ∷ 5 ∷ number ∷ []) (change_checks c counts many new list ++ (last ∷ []))
       (omega arith, (one _, (omega arith, (two c.table, (omega arith, (two new, (omega arith, (three c.table, (omega arith, (three new, later))))))))))
@@ -169,23 +169,23 @@ module _ (c : Corridor) {refusal : Refusal} where
       later : Ascending 3 (4 ∷ 4 ∷ 5 ∷ number ∷ []) (ramps_once c.table ∷ ramps_once new ∷ state_in_range c ∷ last ∷ [])
       later = (omega arith, (four c.table, (omega arith, (four new, (omega arith, (five c, (after, (numbered, tt))))))))
 
-  pub recut_lowest : (pieces new list : List ℕ) → answer (recut_checks c pieces new list) ≡ Refused refusal → LowestNumber (recut_checks c pieces new list) refusal
+  pub recut_lowest : (pieces new list : List ℕ) → answer (recut_checks c pieces new list) ≡ Err refusal → LowestNumber (recut_checks c pieces new list) refusal
   recut_lowest pieces new list = change_lowest pieces (cells_of c) new list (omega arith) (eight c.table pieces new)
 
-  pub join_lowest : (groups new list : List ℕ) → answer (join_checks c groups new list) ≡ Refused refusal → LowestNumber (join_checks c groups new list) refusal
+  pub join_lowest : (groups new list : List ℕ) → answer (join_checks c groups new list) ≡ Err refusal → LowestNumber (join_checks c groups new list) refusal
   join_lowest groups new list = change_lowest groups (cells new) new list (omega arith) (fourteen new groups c.table)
 
 module _ {refusal : Refusal} where
-  pub fit_lowest : (settings : Settings) (flow occupancy : List Float) → answer (fit_checks settings flow occupancy) ≡ Refused refusal → SmallestPlace (fit_checks settings flow occupancy) refusal
+  pub fit_lowest : (settings : Settings) (flow occupancy : List Float) → answer (fit_checks settings flow occupancy) ≡ Err refusal → SmallestPlace (fit_checks settings flow occupancy) refusal
   fit_lowest settings flow occupancy =
       smallest_place 1 (1 ∷ 9 ∷ 10 ∷ []) (fit_checks settings flow occupancy)
       (omega arith, (one _, (omega arith, (nine settings flow occupancy, (omega arith, (ten settings flow occupancy, tt))))))
 
-  pub making_lowest : (diagram : Diagram) (period : ℕ) (cell : Float) → answer (making_checks diagram period cell) ≡ Refused refusal → SmallestPlace (making_checks diagram period cell) refusal
+  pub making_lowest : (diagram : Diagram) (period : ℕ) (cell : Float) → answer (making_checks diagram period cell) ≡ Err refusal → SmallestPlace (making_checks diagram period cell) refusal
   making_lowest diagram period cell =
       smallest_place 9 (9 ∷ 11 ∷ []) (making_checks diagram period cell) (omega arith, (nine_alone period cell, (omega arith, (eleven _, tt))))
 
-  pub calibration_lowest : (settings : Settings) (flow occupancy : List Float) → answer (calibration_checks settings flow occupancy) ≡ Refused refusal → SmallestPlace (calibration_checks settings flow occupancy) refusal
+  pub calibration_lowest : (settings : Settings) (flow occupancy : List Float) → answer (calibration_checks settings flow occupancy) ≡ Err refusal → SmallestPlace (calibration_checks settings flow occupancy) refusal
   calibration_lowest settings flow occupancy =
       smallest_place 1 (1 ∷ 9 ∷ 10 ∷ 11 ∷ []) (calibration_checks settings flow occupancy)
       (omega arith, (one _, (omega arith, (nine settings flow occupancy, (omega arith, (ten settings flow occupancy, (omega arith, (eleven _, tt))))))))

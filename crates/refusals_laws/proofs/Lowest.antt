@@ -1,5 +1,6 @@
 -- The answer of checks whose numbers ascend, each with places that ascend, is of the lowest number that applies; where no number comes twice it is
 -- at its smallest place. Once, over lists of checks. Assumes nothing.
+use Rattle.std.specs.Prelude.{Err}
 use Prim.Native.Nat.{ℕ, suc, ◌≤◌, ◌<◌}
 use mathlib.Core.Path.{◌≡◌, refl, sym, ap, ◌∙◌}
 use mathlib.Core.Bool.{Bool, true, false, false≢true}
@@ -11,7 +12,6 @@ use lib.Dec.{ltb}
 use Rattle.whole.specs.Search.{pick}
 use Rattle.whole.proofs.Search.{is_first}
 use Rattle.refusals.specs.declared.Refusal.{Refusal}
-use Rattle.refusals.specs.declared.Answer.TheVariants.{Refused}
 use Rattle.refusals.specs.Refusals.{number_of, place_of}
 use Rattle.refusals.specs.Checks.{Check, least, or_later, answer}
 use Rattle.refusals.proofs.Answers.{refused_is_not_accepted}
@@ -54,7 +54,7 @@ none_here : (check : Check) {refusal : Refusal} → check.places ≤ least check
 none_here check passed other =
     false≢true (sym other.fails ∙ (is_first check.places check.test).before other.place (omega (arith, other.inside)))
 
-refusal_is : {a b : Refusal} → Refused a ≡ Refused b → a ≡ b
+refusal_is : {a b : Refusal} → Err a ≡ Err b → a ≡ b
 refusal_is e = cc
 
 -- from the checks after one to that one with them
@@ -92,15 +92,15 @@ module _ (check : Check) (checks : List Check) where
       smallest other (inr after) same = rest.smallest other after same
 
   -- by whether it fails
-  by_the_check : {refusal : Refusal} (Claim : Refusal → Type 0) → answer (check ∷ checks) ≡ Refused refusal → (least check < check.places → Claim (check.refusal (least check))) → (check.places ≤ least check → answer checks ≡ Refused refusal → Claim refusal) → Claim refusal
+  by_the_check : {refusal : Refusal} (Claim : Refusal → Type 0) → answer (check ∷ checks) ≡ Err refusal → (least check < check.places → Claim (check.refusal (least check))) → (check.places ≤ least check → answer checks ≡ Err refusal → Claim refusal) → Claim refusal
   unfolding or_later
   by_the_check {refusal} Claim e here later = by (ltb (least check) check.places) refl e
     where
-      by : (fails : Bool) → ltb (least check) check.places ≡ fails → pick fails (Refused (check.refusal (least check))) (answer checks) ≡ Refused refusal → Claim refusal
+      by : (fails : Bool) → ltb (least check) check.places ≡ fails → pick fails (Err (check.refusal (least check))) (answer checks) ≡ Err refusal → Claim refusal
       by true h is = let same : check.refusal (least check) ≡ refusal = refusal_is is in rw same at (here (ltb-true _ _ h))
       by false h is = later (ltb-false _ _ h) is
 
-pub lowest_number : (from : ℕ) (numbers : List ℕ) (checks : List Check) {refusal : Refusal} → Ascending from numbers checks → answer checks ≡ Refused refusal → LowestNumber checks refusal
+pub lowest_number : (from : ℕ) (numbers : List ℕ) (checks : List Check) {refusal : Refusal} → Ascending from numbers checks → answer checks ≡ Err refusal → LowestNumber checks refusal
 lowest_number from numbers [] {refusal} so e = absurd (refused_is_not_accepted refusal (sym e))
 lowest_number from [] (check ∷ checks) so e = absurd so
 lowest_number from (number ∷ numbers) (check ∷ checks) so e =
@@ -123,7 +123,7 @@ rises from (number ∷ numbers) (check ∷ checks) so = (so.0, (so.1.0, lower nu
     lower from [] (check ∷ checks) so = absurd so
     lower from (number ∷ numbers) (check ∷ checks) so = (omega (arith, so.0), so.1)
 
-pub smallest_place : (from : ℕ) (numbers : List ℕ) (checks : List Check) {refusal : Refusal} → Rising from numbers checks → answer checks ≡ Refused refusal → SmallestPlace checks refusal
+pub smallest_place : (from : ℕ) (numbers : List ℕ) (checks : List Check) {refusal : Refusal} → Rising from numbers checks → answer checks ≡ Err refusal → SmallestPlace checks refusal
 smallest_place from numbers [] {refusal} so e = absurd (refused_is_not_accepted refusal (sym e))
 smallest_place from [] (check ∷ checks) so e = absurd so
 smallest_place from (number ∷ numbers) (check ∷ checks) so e =

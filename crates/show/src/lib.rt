@@ -2,18 +2,14 @@
 #![tactic(auto)]
 
 use layout::{count_at, entry_queue, queue_at, state_length};
-use refusals::Answer;
+use refusals::Refusal;
 use std::io;
 
 // Prints an answer and ends the line: accepted, or the refusal's number and place.
-pub fn answer(rt: &impl Print, answer: Answer) -> io::Result<()> {
+pub fn answer(rt: &impl Print, answer: Result<(), Refusal>) -> io::Result<()> {
     match answer {
-        Answer::Accepted => println!(rt; "accepted"),
-        Answer::Refused(refusal) => {
-            let number = refusals::number(refusal);
-            let place = refusals::place(refusal);
-            println!(rt; "refused {number} at {place}")
-        }
+        Ok(()) => println!(rt; "accepted"),
+        Err(refusal) => println!(rt; "{refusal}"),
     }
 }
 
@@ -26,19 +22,15 @@ pub fn list(rt: &impl Print, word: &[u8], list: &[u32]) -> io::Result<()> {
     Ok(())
 }
 
-// Prints a word, the vehicles in the cells and queues of a state of n cells, and ends the line; of more than 512 cells, or another length, nothing.
+// Prints a word, the vehicles in the cells and queues of a state of n cells, and ends the line; of more than 512 cells, or another length,
+// nothing.
 pub fn vehicles(rt: &impl Print, word: &[u8], n: usize, state: &[u32]) -> io::Result<()> {
-    if 512 < n {
+    if 512 < n || state.len() != state_length(n) {
         return Ok(());
     }
-    if state.len() != state_length(n) {
-        return Ok(());
-    }
-    let mut sum = entry_queue(state) as u64;
-    let mut i = 0;
-    while i < n {
-        sum += (count_at(state, i) as u64) + (queue_at(n, state, i) as u64);
-        i += 1;
+    let mut sum = u64::from(entry_queue(state));
+    for i in 0..n {
+        sum += u64::from(count_at(state, i)) + u64::from(queue_at(n, state, i));
     }
     rt.write_all(word)?;
     println!(rt; "{sum}")

@@ -1,12 +1,24 @@
 -- The least index that fails a test is determined: the test fails there, and at none before; or it fails at none. Assumes nothing.
 use Prim.Native.Nat.{ℕ, zero, suc, ◌+◌, ◌≤◌, ◌<◌, zero-le, suc-le-suc}
 use mathlib.Core.Path.{◌≡◌, refl, ap, ap₂, sym, ◌∙◌}
-use mathlib.Core.Bool.{Bool, true, false, not, ◌&&◌, and-false, false≢true}
+use mathlib.Core.Bool.{Bool, true, false, not, ◌&&◌, and-false, and-true, and_assoc, false≢true}
 use native.Mathlib.Nat.{le_of_suc-le-suc, not-suc-le-zero}
 use native.Mathlib.Omega.{arith}
 use native.Mathlib.Decide.{ℕ_discrete}
 use borrow.Author.Count.{below_more}
 use borrow.Author.Tests.{not-true, not-false}
+use mathlib.Core.List.{List}
+use denote.Ref.{Bor}
+use denote.Param.Members.{Mut}
+use Rattle.std.specs.Prelude.{Option, None, Some, MatchOption}
+use Rattle.std.specs.Bool.{⊤}
+use Rattle.std.specs.Fn.{Called, CalledAt}
+use Rattle.std.specs.Iterator.{YieldsThen}
+use Rattle.std.specs.List.{FoldsTo, range_with_len, list_all}
+use Rattle.std.specs.declared.ops.Range.{Range}
+use Rattle.std.proofs.iter.Yields.{nat_range_steps}
+use Rattle.std.proofs.lemmas.Iterator.{YieldsList-from_range, first_from_Range}
+use Rattle.std.proofs.lemmas.Iterator.Search.{all_from_yields_List}
 use Rattle.whole.specs.Search.{pick, every, first_failing}
 
 -- each index below n passes
@@ -101,3 +113,51 @@ every_found {places} {i = i} {test} at h e fails = sym (every_fails places test 
 
 pub every_ends : {places n i : ℕ} {test : ℕ → Bool} → Searching places test n i → n ≤ i → true ≡ every places test
 every_ends {places} {test = test} at ends = sym (every_passes places test λ k h. at.passed k (omega (arith, at.whole)))
+
+-- What a search by an iterator over the indices below n gives, where its closure f, called at an index, says what the test says and stays as
+-- it is: `find`, asked for one that fails, the least; `all` what `every` says
+
+pub record FirstFailing (places : ℕ) (test : ℕ → Bool) (r : Option ℕ) : Type 0 where
+  pub is : MatchOption r (places ≤ first_failing places test) (λ i. (i ≡ first_failing places test) × (i < places))
+
+pub found_first : {F : Type 0} {g : Mut F (Bor ℕ × Unit {0}) Bool} {f : F} {n places : ℕ} {test : ℕ → Bool} {r : Option ℕ} (u : Range ℕ) → n ≡ places
+    → (xs : List ℕ) × (j : F) × YieldsThen nat_range_steps (record { start = 0; end = n }) xs r u × FoldsTo (λ p x q. CalledAt g p x false q) f xs j × MatchOption r ⊤ (λ x. (h : F) × CalledAt g j x true h)
+    → ((x : ℕ) (b : Bool) (q : F) → CalledAt g f x b q → (q ≡ f) × (b ≡ not (test x)))
+    → FirstFailing places test r
+found_first {n = n} {test = test} {r = r} u e ran tells =
+    rw (← e)
+    (record {
+      is =
+          by r
+          (first_from_Range _ u _ r (λ x. test x ≡ false) (λ x. test x ≡ true) ran (λ x q k. not-true _ (sym (tells x true q k).1)) (λ x q k. ((tells x false q k).0, not-false _ (sym (tells x false q k).1))));
+    })
+  where
+    by : (r : Option ℕ) → MatchOption r ((k : ℕ) → 0 ≤ k → k < n → test k ≡ true) (λ i. (0 ≤ i) × (i < n) × (test i ≡ false) × ((k : ℕ) → 0 ≤ k → k < i → test k ≡ true))
+        → MatchOption r (n ≤ first_failing n test) (λ i. (i ≡ first_failing n test) × (i < n))
+    by None all = omega (arith, none_fails n test (λ k h. all k zero-le h))
+    by (Some i) first = (first_is n test i (record { reaches = omega arith; before = λ k. first.3 k zero-le; fails = λ _. first.2 }), first.1)
+
+every_from : (n : ℕ) (test : ℕ → Bool) → every (suc n) test ≡ (test zero && every n (λ k. test (suc k)))
+every_from zero test = sym (and-true (test zero))
+every_from (suc n) test = ap (λ b. b && test (suc n)) (every_from n test) ∙ and_assoc (test zero) (every n (λ k. test (suc k))) (test (suc n))
+
+every_listed : (a n : ℕ) (test : ℕ → Bool) → list_all test (range_with_len a n) ≡ every n (λ k. test (a + k))
+every_listed a zero test = refl
+every_listed a (suc n) test =
+    ap (λ b. test a && b) (every_listed (a + 1) n test) ∙ (λ i. test (first i) && every n (λ k. test (next k i))) ∙ sym (every_from n (λ k. test (a + k)))
+  where
+    first : a ≡ a + zero
+    first = omega arith
+
+    next : (k : ℕ) → a + 1 + k ≡ a + suc k
+    next k = omega arith
+
+pub all_every : {F : Type 0} {g : Mut F (ℕ × Unit {0}) Bool} {f : F} {n places : ℕ} (test : ℕ → Bool) {r : Bool} (u : Range ℕ) → n ≡ places
+    → (xs : List ℕ) × (o : Option ℕ) × (j : F) × YieldsThen nat_range_steps (record { start = 0; end = n }) xs o u × FoldsTo (λ p x q. Called g p (x, tt) true q) f xs j × MatchOption o (r ≡ true) (λ x. (r ≡ false) × ((h : F) × Called g j (x, tt) false h))
+    → ((x : ℕ) (b : Bool) (q : F) → Called g f (x, tt) b q → (q ≡ f) × (b ≡ test x))
+    → r ≡ every places test
+all_every {n = n} test u e ran tells =
+    rw (← e) (all_from_yields_List test u _ _ ran (YieldsList-from_range 0 n n refl (omega arith)) tells ∙ every_listed 0 n test ∙ (λ i. every n (λ k. test (same k i))))
+  where
+    same : (k : ℕ) → 0 + k ≡ k
+    same k = omega arith
