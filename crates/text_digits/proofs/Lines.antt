@@ -2,18 +2,18 @@
 use Prim.Native.Nat.{ℕ, zero, suc, ◌+◌, ◌-◌, ◌*◌, ◌^◌, ◌≤◌, ◌<◌, zero-le}
 use mathlib.Core.Path.{◌≡◌, refl, ap, sym, ◌∙◌}
 use mathlib.Core.List.{List, [], ◌∷◌, ◌++◌, append_assoc}
-use mathlib.Core.Bool.{Bool, true, false}
+use mathlib.Core.Bool.{true, false}
 use native.Mathlib.Numerals.{add-one}
 use native.Mathlib.Omega.{arith}
-use borrow.Author.Tests.{le-leb, lt-leb, leb-true, ne_eqb}
+use borrow.Author.Tests.{le-leb, lt-leb, ne_eqb}
 use lib.Dec.{leb, eqb}
 use lib.ListN.{length, get_or, drop, length-append, drop_of_length-le}
 use lib.Seq.{sets, drop-cons}
 use Rattle.whole.specs.Search.{pick}
 use Rattle.text_digits.specs.Lines.{CR, LF, COMMA, digits_of, further_text, record_text, rest_text, line_text}
-use Rattle.text_digits.specs.Writes.{no_room, written, after_writing, rest_written, after_rest}
+use Rattle.text_digits.specs.Writes.{rest_written, after_rest}
 use Rattle.text_digits.specs.Private.{separated}
-use Rattle.text_digits.specs.declared.Written.TheVariants.{To}
+use Rattle.std.specs.Prelude.{Ok}
 use Rattle.whole.proofs.Tests.{same_test}
 use Rattle.text_digits.proofs.Stores.{rest_of, stores_after}
 use Rattle.text_digits.proofs.Digits.{at_most_20}
@@ -120,27 +120,31 @@ module _ {numbers buffer₀ : List ℕ} {at : ℕ} {buffer : List ℕ} {next i :
       → (after ≡ at + length (line_text numbers)) × (later ≡ sets buffer₀ at (line_text numbers))
   end_put here h n e = (n ∙ (rw (nothing_left numbers i h) at here.ends), e ∙ (rw (nothing_left numbers i h) at here.stores))
 
--- Numbers that each follow a comma, written one by one from the position `at` on: those of `left` and the end are still to come.
+-- Numbers that each follow a comma, written one by one from the position `at` on: those from index i on and the end are still to come.
 
-pub record Resting (numbers buffer₀ : List ℕ) (at : ℕ) (left buffer : List ℕ) (next : ℕ) : Type 0 where
-  pub stores : sets buffer next (rest_text left) ≡ sets buffer₀ at (rest_text numbers)
-  pub ends : next + length (rest_text left) ≡ at + length (rest_text numbers)
+pub record Resting (numbers buffer₀ : List ℕ) (at : ℕ) (buffer : List ℕ) (next i : ℕ) : Type 0 where
+  pub stores : sets buffer next (rest_text (drop i numbers)) ≡ sets buffer₀ at (rest_text numbers)
+  pub ends : next + length (rest_text (drop i numbers)) ≡ at + length (rest_text numbers)
+  pub short : next ≤ at + 21 * i
 
-pub rest_begins : (numbers buffer : List ℕ) (at : ℕ) → Resting numbers buffer at numbers buffer at
-rest_begins numbers buffer at = record { stores = refl; ends = refl }
-
-module _ {numbers buffer₀ : List ℕ} {at : ℕ} {buffer : List ℕ} {next : ℕ} where
-  pub further_put : (n : ℕ) (rest : List ℕ) → Resting numbers buffer₀ at (n ∷ rest) buffer next → {later : List ℕ} {after : ℕ} → after ≡ next + length (COMMA ∷ digits_of n)
-      → later ≡ sets buffer next (COMMA ∷ digits_of n) → Resting numbers buffer₀ at rest later after
-  further_put n rest here e s =
+module _ {numbers buffer₀ : List ℕ} {at : ℕ} {buffer : List ℕ} {next i : ℕ} where
+  pub further_put : Resting numbers buffer₀ at buffer next i → i < length numbers → {later : List ℕ} {after : ℕ} → after ≡ next + length (COMMA ∷ digits_of (get_or numbers i 0))
+      → after ≤ next + 21 → later ≡ sets buffer next (COMMA ∷ digits_of (get_or numbers i 0)) → Resting numbers buffer₀ at later after (i + 1)
+  further_put here h e most s =
+      let n = get_or numbers i 0 in
+      let rest = drop (i + 1) numbers in
+      let left : rest_text (drop i numbers) ≡ (COMMA ∷ digits_of n) ++ rest_text rest = rw (rest_of numbers i h) (line_goes_on n rest) in
       record {
-        stores = rw (s, e) (sym (stores_after buffer next (COMMA ∷ digits_of n) (rest_text rest)) ∙ (rw (line_goes_on n rest) at here.stores));
-        ends = rw e (omega (arith, length-append (COMMA ∷ digits_of n) (rest_text rest), rw (line_goes_on n rest) at here.ends));
+        stores = rw (s, e) (sym (stores_after buffer next (COMMA ∷ digits_of n) (rest_text rest)) ∙ (rw left at here.stores));
+        ends = rw e (omega (arith, length-append (COMMA ∷ digits_of n) (rest_text rest), rw left at here.ends));
+        short = omega (arith, here.short, most);
       }
 
-  pub rest_ends : Resting numbers buffer₀ at [] buffer next → {later : List ℕ} {after : ℕ} → after ≡ next + 2 → later ≡ sets buffer next (CR ∷ LF ∷ [])
+  pub rest_ends : Resting numbers buffer₀ at buffer next i → length numbers ≤ i → {later : List ℕ} {after : ℕ} → after ≡ next + 2 → later ≡ sets buffer next (CR ∷ LF ∷ [])
       → (after ≡ at + length (rest_text numbers)) × (later ≡ sets buffer₀ at (rest_text numbers))
-  rest_ends here e s = (e ∙ (rw line_ends at here.ends), s ∙ (rw line_ends at here.stores))
+  rest_ends here h e s =
+      let nothing : rest_text (drop i numbers) ≡ CR ∷ LF ∷ [] = rw (drop_of_length-le numbers h) line_ends in
+      (e ∙ (rw nothing at here.ends), s ∙ (rw nothing at here.stores))
 
 -- a record of no numbers
 pub no_numbers : (numbers : List ℕ) → length numbers ≡ 0 → line_text numbers ≡ CR ∷ LF ∷ []
@@ -190,34 +194,7 @@ pub at_least_2 : (numbers : List ℕ) → 2 ≤ length (line_text numbers)
 unfolding line_text
 at_least_2 numbers = omega (arith, length-append (record_text numbers) (CR ∷ LF ∷ []))
 
--- bytes, by the test of whether they fit a buffer
-module _ (buffer bytes : List ℕ) (at : ℕ) where
-  pub text_fits : {fits : Bool} → fits ≡ leb (at + length bytes) (length buffer) → fits ≡ true → at + length bytes ≤ length buffer
-  text_fits told has = leb-true (at + length bytes) (length buffer) (sym told ∙ has)
-
-  pub text_put : {fits : Bool} → fits ≡ leb (at + length bytes) (length buffer) → fits ≡ true → {to : ℕ} {later : List ℕ} → to ≡ at + length bytes
-      → later ≡ sets buffer at bytes → (To to ≡ written buffer at bytes) × (later ≡ after_writing buffer at bytes)
-  unfolding written after_writing
-  text_put told has e s = rw (sym told ∙ has) (ap To e, s)
-
-  pub no_text : {fits : Bool} → fits ≡ leb (at + length bytes) (length buffer) → fits ≡ false → (no_room ≡ written buffer at bytes) × (buffer ≡ after_writing buffer at bytes)
-  unfolding written after_writing
-  no_text told short = rw (sym told ∙ short) (refl, refl)
-
--- the rest of a line, by the room that a buffer has
-pub no_rest : (buffer bytes : List ℕ) (at : ℕ) → length buffer < at + 128
-    → (no_room ≡ rest_written buffer at bytes) × ((buffer ≡ after_rest buffer at bytes) × ((end : ℕ) → no_room ≡ To end → end ≤ at + 128))
-unfolding rest_written after_rest
-no_rest buffer bytes at short =
-    (rw (lt-leb (at + 128) (length buffer) short), (rw (lt-leb (at + 128) (length buffer) short), λ end e. absurd (let z : ◌≡◌ {A = ℕ} 0 1 = cc in omega arith)))
-
-pub rest_put : (buffer bytes : List ℕ) (at : ℕ) {to : ℕ} {later : List ℕ} → at + 128 ≤ length buffer → to ≡ at + length bytes → to ≤ at + 128 → later ≡ sets buffer at bytes
-    → (To to ≡ rest_written buffer at bytes) × ((later ≡ after_rest buffer at bytes) × ((end : ℕ) → To to ≡ To end → end ≤ at + 128))
-unfolding rest_written after_rest
-rest_put buffer bytes at {to} has e most s =
-    (rw (le-leb (at + 128) (length buffer) has) (ap To e), (rw (le-leb (at + 128) (length buffer) has) s, λ end same. let there : to ≡ end = cc in omega (arith, most, there)))
-
--- and where a caller's buffer has it
-pub rest_fits : (buffer bytes : List ℕ) (at : ℕ) → at + 128 ≤ length buffer → (rest_written buffer at bytes ≡ To (at + length bytes)) × (after_rest buffer at bytes ≡ sets buffer at bytes)
+-- the rest of a line, where a buffer has room for it
+pub rest_fits : (buffer bytes : List ℕ) (at : ℕ) → at + 128 ≤ length buffer → (rest_written buffer at bytes ≡ Ok (at + length bytes)) × (after_rest buffer at bytes ≡ sets buffer at bytes)
 unfolding rest_written after_rest
 rest_fits buffer bytes at has = (rw (le-leb (at + 128) (length buffer) has), rw (le-leb (at + 128) (length buffer) has))

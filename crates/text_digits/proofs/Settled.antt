@@ -34,5 +34,5 @@ write_record_settles_buffer κs a y z e f p q = settled p.1 q.1
 pub write_rest_settles : Settles _ write_rest_kinds.ps write_rest_kinds.r write_rest_reads.Learnt
 write_rest_settles κs a y z e f p q = settled p.0 q.0
 
-pub write_rest_settles_buffer : SettlesLater _ write_rest_kinds.ps write_rest_kinds.r write_rest_reads.Learnt (λ κs e. e.1.1.1.1.1.1.0.now)
+pub write_rest_settles_buffer : SettlesLater _ write_rest_kinds.ps write_rest_kinds.r write_rest_reads.Learnt (λ κs e. e.1.0.now)
 write_rest_settles_buffer κs a y z e f p q = settled p.1.0 q.1.0

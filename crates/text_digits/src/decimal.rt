@@ -61,14 +61,12 @@ fn further_fits(numbers: &[u64], room: usize) -> bool
     ensures { result ≡ leb (length (further_text numbers.now)) room }
 {
     let mut left = room;
-    let mut i = 0;
-    while i < numbers.len() {
-        let taken = digit_count(numbers[i]);
+    for number in numbers {
+        let taken = digit_count(*number);
         if left <= taken {
             return false;
         }
         left = left - taken - 1;
-        i += 1;
     }
     true
 }
@@ -88,7 +86,7 @@ pub(crate) fn line_fits(numbers: &[u64], size: usize, at: usize) -> bool
     if room < 2 {
         return false;
     }
-    if numbers.len() == 0 {
+    if numbers.is_empty() {
         return true;
     }
     further_fits(numbers, room - 1)
@@ -135,10 +133,8 @@ pub(crate) fn put_line(numbers: &[u64], buffer: &mut [u8], at: usize) -> usize
     ensures stores { buffer.new ≡ sets buffer.old at (line_text numbers.now) }
 {
     let mut next = at;
-    let mut i = 0;
-    while i < numbers.len() {
-        next = put_separated(i, numbers[i], buffer, next);
-        i += 1;
+    for (i, number) in numbers.iter().enumerate() {
+        next = put_separated(i, *number, buffer, next);
     }
     put_end(buffer, next)
 }
@@ -173,6 +169,7 @@ fn put_few(number: u64, buffer: &mut [u8], at: usize) -> usize
 }
 
 // Writes a number after a comma.
+#[tactic(auto, using(crate::proofs::Digits::at_most_20))]
 fn put_further(number: u64, buffer: &mut [u8], at: usize) -> usize
     requires { at + 21 ≤ length buffer.old }
     ensures answer { result ≡ at + length (COMMA ∷ digits_of number) }
@@ -188,26 +185,15 @@ fn put_further(number: u64, buffer: &mut [u8], at: usize) -> usize
 
 // Writes the rest of a record of seven numbers after its first: six numbers, each after a comma, and the end. They take at
 // most 128 bytes, since each number has at most 20 digits.
-pub(crate) fn put_rest(
-    a: u64,
-    b: u64,
-    c: u64,
-    d: u64,
-    e: u64,
-    f: u64,
-    buffer: &mut [u8],
-    at: usize,
-) -> usize
+pub(crate) fn put_rest(rest: [u64; 6], buffer: &mut [u8], at: usize) -> usize
     requires { at + 128 ≤ length buffer.old }
-    ensures answer { result ≡ at + length (rest_text (a ∷ b ∷ c ∷ d ∷ e ∷ f ∷ [])) }
+    ensures answer { result ≡ at + length (rest_text rest) }
     ensures within { result ≤ at + 128 }
-    ensures stores { buffer.new ≡ sets buffer.old at (rest_text (a ∷ b ∷ c ∷ d ∷ e ∷ f ∷ [])) }
+    ensures stores { buffer.new ≡ sets buffer.old at (rest_text rest) }
 {
-    let after_a = put_further(a, buffer, at);
-    let after_b = put_further(b, buffer, after_a);
-    let after_c = put_further(c, buffer, after_b);
-    let after_d = put_further(d, buffer, after_c);
-    let after_e = put_further(e, buffer, after_d);
-    let after_f = put_further(f, buffer, after_e);
-    put_end(buffer, after_f)
+    let mut next = at;
+    for number in rest {
+        next = put_further(number, buffer, next);
+    }
+    put_end(buffer, next)
 }

@@ -13,15 +13,14 @@ use Rattle.text_laws.proofs.ReadBack.{one_more, together_one_more, no_text, open
 use Rattle.text_records.specs.Texts.{text_of, Small, none, and, Fits, AllFit, none_left, and_then, TextOf, closed, left_open, together}
 use Rattle.text_scans.specs.Scans.{LARGEST, LONGEST, begin, feed, ended}
 use Rattle.text_scans.specs.Scans as scans
-use Rattle.text_records.specs.Reads.{broken_at, text_at_end, text_from, text_on, numbers_from, numbers_on, held, numbers}
+use Rattle.text_records.specs.Reads.{Text, broken_at, text_at_end, text_from, text_on, numbers_from, numbers_on, held, numbers}
 use Rattle.text_scans.specs.declared.Scan.{Scan}
 use Rattle.text_scans.specs.declared.Scan.TheVariants.{Start, Number, Return}
 use Rattle.text_scans.specs.declared.Step.{Step}
 use Rattle.text_scans.specs.declared.Step.TheVariants.{More, Field, Complete, Breaks}
 use Rattle.text_scans.specs.declared.End.{End}
 use Rattle.text_scans.specs.declared.End.TheVariants.{Nothing, Last, Cut}
-use Rattle.text_records.specs.declared.Text.{Text}
-use Rattle.text_records.specs.declared.Text.TheVariants.{Holds}
+use Rattle.std.specs.Prelude.{Ok}
 
 -- numbers that each have a comma after them
 unfoldable pub start_text : List ℕ → List ℕ
@@ -120,8 +119,8 @@ one_byte_on so breaks = tt
 -- record breaks. The answer is settled by which, with n records complete before the text.
 
 pub data Tail (fields n : ℕ) (rest : List ℕ) (answer : Text) (list : List ℕ) : Type 0 where
-  nothing : rest ≡ [] → answer ≡ Holds n → list ≡ [] → Tail fields n rest answer list
-  last : (row : List ℕ) → Fits fields row → rest ≡ record_text row → answer ≡ Holds (n + 1) → list ≡ row → Tail fields n rest answer list
+  nothing : rest ≡ [] → answer ≡ Ok n → list ≡ [] → Tail fields n rest answer list
+  last : (row : List ℕ) → Fits fields row → rest ≡ record_text row → answer ≡ Ok (n + 1) → list ≡ row → Tail fields n rest answer list
   broken : held fields rest ≡ broken_at 1 → answer ≡ broken_at (n + 1) → Tail fields n rest answer list
 
 pub record Parts (fields n : ℕ) (text : List ℕ) (answer : Text) (list : List ℕ) : Type 0 where
@@ -156,7 +155,7 @@ breaks_here n pre bytes list s leads stops =
 at_end : (fields : ℕ) → Told fields []
 unfolding text_on numbers_on numbers_from ended feed scans.at_start start_text
 at_end fields n (Start f y) pre [] (at_start_lem is count size short small) leads =
-    rw (append-nil pre) (no_rows λ k e. nothing is (rw count (ap Holds e)) refl)
+    rw (append-nil pre) (no_rows λ k e. nothing is (rw count (ap Ok e)) refl)
 at_end fields n (Start f y) pre (m ∷ ns) (at_start_lem is count size short small) leads =
     breaks_here n pre [] _ (Start f y) leads λ k. rw (ne_eqb f 0 (λ z. omega arith))
 at_end fields n (Number f y v) pre ns (in_number_lem is count size short fits small) leads = by (feed (Number f y v) CR fields) (fed fields (Number f y v) CR) refl
@@ -167,7 +166,7 @@ at_end fields n (Number f y v) pre ns (in_number_lem is count size short fits sm
     by step (comma is-comma more room) e = absurd (omega arith)
     by step (return is-return is_last) e =
         rw (append-nil pre)
-        (no_rows λ k same. last (ns ++ v ∷ []) (closes is count size short fits small is_last) (is ∙ sym (record_and ns v)) (ap (λ (m : ℕ). Holds (m + 1)) same) refl)
+        (no_rows λ k same. last (ns ++ v ∷ []) (closes is count size short fits small is_last) (is ∙ sym (record_and ns v)) (ap (λ (m : ℕ). Ok (m + 1)) same) refl)
     by step breaks e = stops (breaks_here n pre [] (ns ++ []) (Number f y v) leads (λ k. rw e))
       where
         stops : Parts fields n (pre ++ []) (text_on fields n (Number f y v) []) (ns ++ []) → Parts fields n (pre ++ []) (broken_at (n + 1)) (ns ++ [])
@@ -233,13 +232,13 @@ fit_and : {fields : ℕ} {row : List ℕ} (rows : List (List ℕ)) → AllFit fi
 fit_and [] none_left fits = and_then fits none_left
 fit_and (first ∷ rows) (and_then fit rest) fits = and_then fit (fit_and rows rest fits)
 
-same_count : {n m : ℕ} → Holds n ≡ Holds m → n ≡ m
+same_count : {n m : ℕ} → ◌≡◌ {A = Text} (Ok n) (Ok m) → n ≡ m
 same_count e = cc
 
-not_broken : {n m : ℕ} → Holds n ≡ broken_at m → ⊥
+not_broken : {n m : ℕ} → Ok n ≡ broken_at m → ⊥
 not_broken e = let z : ◌≡◌ {A = ℕ} 0 1 = cc in omega arith
 
-pub accepted : (fields : ℕ) (text : List ℕ) (n : ℕ) → held fields text ≡ Holds n → IsText fields text n
+pub accepted : (fields : ℕ) (text : List ℕ) (n : ℕ) → held fields text ≡ Ok n → IsText fields text n
 accepted fields text n holds = by (every_text fields text)
   where
     by : Parts fields 0 text (held fields text) (numbers fields text) → IsText fields text n
@@ -331,7 +330,7 @@ numbers_in_all fields [] none_left = omega arith
 numbers_in_all fields (row ∷ rows) (and_then fits fit) =
     length-append row (together rows) ∙ (rw (fits.count, numbers_in_all fields rows fit) (omega (arith, suc-mul (length rows) fields)))
 
-pub accepted_count : (fields : ℕ) (text : List ℕ) (n : ℕ) → held fields text ≡ Holds n → length (numbers fields text) ≡ n * fields
+pub accepted_count : (fields : ℕ) (text : List ℕ) (n : ℕ) → held fields text ≡ Ok n → length (numbers fields text) ≡ n * fields
 accepted_count fields text n holds =
     let its = accepted fields text n holds in
     ap length its.read ∙ numbers_in_all fields its.rows its.fit ∙ ap (λ (k : ℕ). k * fields) (sym its.count)

@@ -5,13 +5,12 @@ use mathlib.Core.List.{List, [], ◌∷◌, ◌++◌}
 use native.Mathlib.Omega.{arith}
 use lib.ListN.{length, set, drop}
 use Rattle.text_scans.specs.Scans.{begin, feed, ended}
-use Rattle.text_records.specs.Reads.{broken_at, read_from, read_on, row_from, row_on, text_at_end, text_from, text_on}
+use Rattle.text_records.specs.Reads.{Text, broken_at, read_from, read_on, row_from, row_on, text_at_end, text_from, text_on}
 use Rattle.text_scans.specs.declared.Scan.{Scan}
 use Rattle.text_scans.specs.declared.Step.{Step}
 use Rattle.text_scans.specs.declared.Step.TheVariants.{More, Field, Complete, Breaks}
 use Rattle.text_records.specs.declared.Read.{Read}
 use Rattle.text_records.specs.declared.Read.TheVariants.{Record, Part, Broken}
-use Rattle.text_records.specs.declared.Text.{Text}
 
 -- a chunk that is used up is followed by the next, from where the reading stands; a record that is complete or broken is not
 unfoldable pub next_read : ℕ → ℕ → Read → List ℕ → Read

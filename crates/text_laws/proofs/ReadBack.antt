@@ -23,7 +23,7 @@ use Rattle.text_scans.specs.declared.Scan.TheVariants.{Start, Number, Return}
 use Rattle.text_scans.specs.declared.Step.TheVariants.{More, Field}
 use Rattle.text_scans.specs.declared.End.TheVariants.{Last}
 use Rattle.text_records.specs.declared.Read.TheVariants.{Record, Part}
-use Rattle.text_records.specs.declared.Text.TheVariants.{Holds}
+use Rattle.std.specs.Prelude.{Ok}
 
 -- Bytes inside a record lead from one place of it to another, past these numbers, which go to the row.
 pub data Goes (fields : ℕ) : Scan → List ℕ → List ℕ → List ℕ → Scan → List ℕ → Type 0 where
@@ -265,7 +265,7 @@ last_fits : (fields : ℕ) (rows : List (List ℕ)) (row : List ℕ) → AllFit 
 last_fits fields [] row (and_then fits fit) = (none_left, fits)
 last_fits fields (first ∷ rows) row (and_then fits fit) = let more = last_fits fields rows row fit in (and_then fits more.0, more.1)
 
-pub no_text : (fields n : ℕ) → text_on fields n begin [] ≡ Holds n
+pub no_text : (fields n : ℕ) → text_on fields n begin [] ≡ Ok n
 unfolding text_on ended feed scans.at_start
 no_text fields n = refl
 
@@ -273,7 +273,7 @@ pub no_text_numbers : (fields : ℕ) → numbers_on fields begin [] ≡ []
 unfolding numbers_on numbers_from feed scans.at_start
 no_text_numbers fields = refl
 
-pub open_text : (fields n : ℕ) (list : List ℕ) → Fits fields list → text_on fields n begin (record_text list) ≡ Holds (n + 1)
+pub open_text : (fields n : ℕ) (list : List ℕ) → Fits fields list → text_on fields n begin (record_text list) ≡ Ok (n + 1)
 unfolding text_on ended
 open_text fields n list fits =
     let to = record_reaches fields list [] fits in
@@ -286,16 +286,16 @@ open_numbers fields list fits =
     (rw (append-nil (record_text list)) at (numbers_go to.path [])) ∙ (rw to.close to.all)
 
 pub reads_back : (fields : ℕ) (rows : List (List ℕ)) (text : List ℕ) → AllFit fields rows → TextOf rows text
-    → (held fields text ≡ Holds (length rows)) × (numbers fields text ≡ together rows)
+    → (held fields text ≡ Ok (length rows)) × (numbers fields text ≡ together rows)
 unfolding held numbers
 reads_back fields rows text fit (closed all) =
     let none = append-nil (text_of all) in (
-      (rw none at (texts_after fields 0 all [] fit)) ∙ no_text fields (0 + length all) ∙ ap Holds (omega arith),
+      (rw none at (texts_after fields 0 all [] fit)) ∙ no_text fields (0 + length all) ∙ ap Ok (omega arith),
       (rw (none, no_text_numbers) at (numbers_of_texts fields all [] fit)) ∙ append-nil (together all),
     )
 reads_back fields rows text fit (left_open all row) =
     let parts = last_fits fields all row fit in (
-      texts_after fields 0 all (record_text row) parts.0 ∙ open_text fields (0 + length all) row parts.1 ∙ ap Holds (omega (arith, one_more all row)),
+      texts_after fields 0 all (record_text row) parts.0 ∙ open_text fields (0 + length all) row parts.1 ∙ ap Ok (omega (arith, one_more all row)),
       numbers_of_texts fields all (record_text row) parts.0 ∙ ap (λ (l : List ℕ). together all ++ l) (open_numbers fields row parts.1) ∙ sym (together_one_more all row),
     )
 

@@ -12,10 +12,9 @@ use Rattle.text_digits.specs.Lines.{COMMA, DIGIT}
 use Rattle.whole.proofs.Tests.{both_hold}
 use Rattle.text_scans.specs.Scans.{LONGEST, is_digit, at_start, longer, in_number, feed}
 use Rattle.text_records.specs.Reads.{read_from, read_on, row_from, row_on}
-use Rattle.text_records.specs.Private.{Comes, DigitsRead, FieldRead, AfterFirst, FromStart, FieldsRead}
+use Rattle.text_records.specs.Private.{Comes, DigitsRead, FieldRead, AfterFirst, FromStart}
 use Rattle.text_records.specs.declared.Digits.{Digits}
-use Rattle.text_records.specs.declared.Begun.{Begun}
-use Rattle.text_records.specs.declared.Begun.TheVariants.{Whole, Other}
+use Rattle.std.specs.Prelude.{Option, Some, None}
 use Rattle.text_scans.specs.declared.Scan.{Scan}
 use Rattle.text_scans.specs.declared.Scan.TheVariants.{Start, Number}
 use Rattle.text_scans.specs.declared.Step.{Step}
@@ -80,14 +79,6 @@ is_digit_lem byte e h =
 
 -- Digits after the first, one after the other.
 
-pub no_digits_yet : (chunk : List ℕ) (from stop first : ℕ) → from ≤ stop → DigitsRead chunk from stop first (record { next = from; value = first })
-no_digits_yet chunk from stop first h =
-    record {
-      starts = omega arith;
-      ends = h;
-      reads = λ fields field bytes row short. let none : bytes + (from - from) ≡ bytes = omega arith in rw none (stays chunk fields from (Number field bytes first) row);
-    }
-
 pub one_digit_more : {chunk : List ℕ} {from stop first next value : ℕ} → DigitsRead chunk from stop first (record { next = next; value = value }) → next < stop → stop ≤ length chunk
     → (DIGIT ≤ get_or chunk next 0) × (get_or chunk next 0 ≤ DIGIT + 9) → 0 < value → value < 400000000
     → DigitsRead chunk from stop first (record { next = next + 1; value = value * 10 + (get_or chunk next 0 - DIGIT) })
@@ -131,38 +122,15 @@ module _ (chunk : List ℕ) (from stop : ℕ) (within : stop ≤ length chunk) (
             (comma_read chunk (from + 1) field (bytes + 1) (omega arith) (omega arith) fields (get_or chunk from 0 - DIGIT) row is more));
       }
 
-  pub first_digit_then : (r : Begun) → from < stop → AfterFirst chunk (from + 1) stop (get_or chunk from 0 - DIGIT) r → FromStart chunk from stop r
-  first_digit_then (Whole number next) h rest =
+  pub first_digit_then : (r : Option Digits) → from < stop → AfterFirst chunk (from + 1) stop (get_or chunk from 0 - DIGIT) r → FromStart chunk from stop r
+  first_digit_then (Some whole) h rest =
       record {
         further = omega (arith, rest.further);
         ends = rest.ends;
         reads = λ fields field bytes row more short.
-            let one : bytes + (next - from) ≡ bytes + 1 + (next - (from + 1)) = omega (arith, rest.further) in
+            let one : bytes + (whole.next - from) ≡ bytes + 1 + (whole.next - (from + 1)) = omega (arith, rest.further) in
             rw one
             (then (first_digit_read chunk from field bytes (omega arith) (omega (arith, rest.further)) fields row digit.0 digit.1)
             (rest.reads fields field (bytes + 1) row more (omega (arith, rest.further))));
       }
-  first_digit_then Other h rest = rest
-
--- Fields one after the other.
-
-pub no_fields_yet : (chunk : List ℕ) (from stop field : ℕ) (row : List ℕ) → from ≤ stop → FieldsRead chunk from stop field row row (record { field = field; at = from })
-no_fields_yet chunk from stop field row h =
-    record {
-      starts = omega arith;
-      ends = h;
-      reads = λ bytes short. let none : bytes + (from - from) ≡ bytes = omega arith in rw none (stays chunk (length row) from (Start field bytes) row);
-    }
-
-pub one_field_more : {chunk : List ℕ} {from stop field : ℕ} {row₀ row : List ℕ} {field' at number next : ℕ} → FieldsRead chunk from stop field row₀ row (record { field = field'; at = at })
-    → field' + 1 < length row₀ → FieldRead chunk at stop (λ field bytes. Start field bytes) number next
-    → FieldsRead chunk from stop field row₀ (set row field' number) (record { field = field' + 1; at = next })
-one_field_more {from = from} {stop = stop} {row₀ = row₀} {row = row} {field' = field'} {at = at} {next = next} before more one =
-    record {
-      starts = omega (arith, before.starts, one.further);
-      ends = one.ends;
-      reads = λ bytes short.
-          let sum : bytes + (next - from) ≡ bytes + (at - from) + (next - at) = omega (arith, before.starts, one.further) in
-          rw sum
-          (then (before.reads bytes short) (one.reads (length row₀) field' (bytes + (at - from)) row more (omega (arith, before.starts, one.further, one.ends))));
-    }
+  first_digit_then None h rest = rest

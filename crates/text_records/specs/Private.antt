@@ -1,13 +1,11 @@
 -- Cited by private contracts and proofs alone: no public promise rests on this file.
 -- Fields read at once: reading on from one place of a chunk comes to what reading on from a later place comes to.
-use Rattle.std.specs.Prelude.{ℕ, ◌+◌, ◌-◌, ◌≤◌, ◌<◌, ◌≡◌, List, length, drop, set}
+use Rattle.std.specs.Prelude.{ℕ, ◌+◌, ◌-◌, ◌≤◌, ◌<◌, ◌≡◌, List, length, drop, set, Option, Some, None}
 use Rattle.text_scans.specs.Scans.{LONGEST}
 use Rattle.text_records.specs.Reads.{read_on, row_on}
 use Rattle.text_scans.specs.declared.Scan.{Scan}
 use Rattle.text_scans.specs.declared.Scan.TheVariants.{Start, Number}
 use Rattle.text_records.specs.declared.Digits.{Digits}
-use Rattle.text_records.specs.declared.Begun.{Begun}
-use Rattle.text_records.specs.declared.Begun.TheVariants.{Whole, Other}
 use Rattle.text_records.specs.declared.Place.{Place}
 
 -- from an index, a scan and a row to a later index, scan and row
@@ -29,13 +27,13 @@ pub record FieldRead (chunk : List ℕ) (from stop : ℕ) (begun : ℕ → ℕ �
   pub reads : (fields field bytes : ℕ) (row : List ℕ) → field + 1 < fields → bytes + (next - from) ≤ LONGEST
       → Comes chunk fields from (begun field bytes) row next (Start (field + 1) (bytes + (next - from))) (set row field number)
 
-abbrev pub AfterFirst : List ℕ → ℕ → ℕ → ℕ → Begun → Type 0
-AfterFirst chunk from stop first (Whole number next) = FieldRead chunk from stop (λ field bytes. Number field bytes first) number next
-AfterFirst chunk from stop first Other = Unit {0}
+abbrev pub AfterFirst : List ℕ → ℕ → ℕ → ℕ → Option Digits → Type 0
+AfterFirst chunk from stop first (Some whole) = FieldRead chunk from stop (λ field bytes. Number field bytes first) whole.value whole.next
+AfterFirst chunk from stop first None = Unit {0}
 
-abbrev pub FromStart : List ℕ → ℕ → ℕ → Begun → Type 0
-FromStart chunk from stop (Whole number next) = FieldRead chunk from stop (λ field bytes. Start field bytes) number next
-FromStart chunk from stop Other = Unit {0}
+abbrev pub FromStart : List ℕ → ℕ → ℕ → Option Digits → Type 0
+FromStart chunk from stop (Some whole) = FieldRead chunk from stop (λ field bytes. Start field bytes) whole.value whole.next
+FromStart chunk from stop None = Unit {0}
 
 -- fields one after the other, in a record that has room for the bytes before `stop`
 pub record FieldsRead (chunk : List ℕ) (from stop field : ℕ) (row later : List ℕ) (r : Place) : Type 0 where

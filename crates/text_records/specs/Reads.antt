@@ -1,5 +1,5 @@
 -- Rules, "The text and the program": a record, and a whole text, read byte after byte.
-use Rattle.std.specs.Prelude.{ℕ, ◌+◌, ◌*◌, List, [], ◌∷◌, leb, eqb, set}
+use Rattle.std.specs.Prelude.{ℕ, ◌+◌, ◌*◌, List, [], ◌∷◌, leb, eqb, set, Result, Ok, Err}
 use Rattle.std.proofs.lemmas.List.Edits.{sets}
 use Rattle.whole.specs.Search.{pick}
 use Rattle.refusals.specs.declared.Refusal.{Refusal}
@@ -14,8 +14,6 @@ use Rattle.text_scans.specs.declared.End.{End}
 use Rattle.text_scans.specs.declared.End.TheVariants.{Nothing, Last, Cut}
 use Rattle.text_records.specs.declared.Read.{Read}
 use Rattle.text_records.specs.declared.Read.TheVariants.{Record, Part, Broken}
-use Rattle.text_records.specs.declared.Text.{Text}
-use Rattle.text_records.specs.declared.Text.TheVariants.{Holds, Refused}
 
 -- One record, from where its reading stands; the bytes start at index `at` of their chunk. Reading stops after the record's
 -- end, and where the record breaks.
@@ -46,15 +44,19 @@ row_on fields scan row (byte ∷ rest) = row_from (feed scan byte fields) (λ ne
 unfoldable pub row_at_end : ℕ → Scan → List ℕ → List ℕ
 row_at_end fields scan row = row_from (feed scan CR fields) (λ next now. now) row
 
+-- what a whole text is found to be: so many records, or a refusal
+abbrev pub Text : Type 0
+Text = Result ℕ Refusal
+
 -- 12, at the first record that breaks a rule, counted from 1
 abbrev pub broken_at : ℕ → Text
-broken_at place = Refused (Refusal.Record place)
+broken_at place = Err (Refusal.Record place)
 
 -- A whole text of records of so many fields each, with n records complete before these bytes.
 
 abbrev pub text_at_end : End → ℕ → Text
-text_at_end Nothing n = Holds n
-text_at_end Last n = Holds (n + 1)
+text_at_end Nothing n = Ok n
+text_at_end Last n = Ok (n + 1)
 text_at_end Cut n = broken_at (n + 1)
 
 unfoldable pub text_from : Step → (Scan → Text) → Text → ℕ → Text
@@ -90,15 +92,15 @@ numbers fields text = numbers_on fields begin text
 -- Read into a list with room for so many numbers: 1 where they don't fit. A refusal leaves the list as it came.
 
 unfoldable pub fit : ℕ → ℕ → Text → Text
-fit fields room (Holds n) = pick (leb (n * fields) room) (Holds n) (Refused Length)
-fit fields room (Refused refusal) = Refused refusal
+fit fields room (Ok n) = pick (leb (n * fields) room) (Ok n) (Err Length)
+fit fields room (Err refusal) = Err refusal
 
 abbrev pub after_reading : Text → List ℕ → List ℕ → List ℕ
-after_reading (Holds n) list into = sets into 0 list
-after_reading (Refused refusal) list into = into
+after_reading (Ok n) list into = sets into 0 list
+after_reading (Err refusal) list into = into
 
 -- A text of exactly one record: a missing one breaks as record 1, and anything after it as record 2.
 
 unfoldable pub one : Text → Text
-one (Holds n) = pick (eqb n 0) (broken_at 1) (pick (eqb n 1) (Holds n) (broken_at 2))
-one (Refused refusal) = pick (leb (place_of refusal) 1) (broken_at 1) (broken_at 2)
+one (Ok n) = pick (eqb n 0) (broken_at 1) (pick (eqb n 1) (Ok n) (broken_at 2))
+one (Err refusal) = pick (leb (place_of refusal) 1) (broken_at 1) (broken_at 2)

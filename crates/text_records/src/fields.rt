@@ -1,12 +1,11 @@
 // Fields that stand whole in a chunk, with the comma after each: a loop over the digits, and one look at the longest record
 // for all of them. Whatever else stands there is left to the reading byte after byte.
 ghost use Rattle.std.specs.Prelude.{◌+◌, ◌-◌, ◌≤◌, ◌<◌, length};
-ghost use Rattle.text_scans.specs.Scans.{LONGEST};
 ghost use Rattle.text_records.specs.Private.{Comes, DigitsRead, AfterFirst, FromStart, FieldsRead};
 
-use crate::{Begun, Digits, Opened, Place};
-use text_scans::Scan;
+use crate::{Digits, Opened, Place};
 use text_scans::field::{followed, is_digit};
+use text_scans::{LONGEST, Scan};
 
 // The digits from an index on, after those that make `first`. A number below 400,000,000 has room for one digit more.
 fn more_digits(chunk: &[u8], from: usize, stop: usize, first: u32) -> Digits
@@ -14,61 +13,53 @@ fn more_digits(chunk: &[u8], from: usize, stop: usize, first: u32) -> Digits
     ensures { DigitsRead chunk.now from stop first result }
 {
     let mut value = first;
-    let mut next = from;
-    while next < stop {
+    for next in from..stop {
         let byte = chunk[next];
-        if !is_digit(byte) {
+        if !is_digit(byte) || 400_000_000 <= value {
             return Digits { next, value };
         }
-        if 400_000_000 <= value {
-            return Digits { next, value };
-        }
-        value = value * 10 + ((byte - b'0') as u32);
-        next += 1;
+        value = value * 10 + u32::from(byte - b'0');
     }
-    Digits { next, value }
+    Digits { next: stop, value }
 }
 
 // A field from the byte after its first digit on, which is not 0.
-fn after_first(chunk: &[u8], from: usize, stop: usize, first: u32) -> Begun
+fn after_first(chunk: &[u8], from: usize, stop: usize, first: u32) -> Option<Digits>
     requires { (0 < first) × (from ≤ stop) × (stop ≤ length chunk.now) }
     ensures { AfterFirst chunk.now from stop first result }
 {
-    let digits = more_digits(chunk, from, stop, first);
-    let next = digits.next;
-    if stop <= next {
-        return Begun::Other;
-    }
-    if chunk[next] == b',' {
-        return Begun::Whole {
-            number: digits.value,
+    let Digits { next, value } = more_digits(chunk, from, stop, first);
+    if next < stop && chunk[next] == b',' {
+        return Some(Digits {
             next: next + 1,
-        };
+            value,
+        });
     }
-    Begun::Other
+    None
 }
 
-// A field from its first digit on. Most are one digit, and none goes on after a leading 0.
-fn whole_field(chunk: &[u8], from: usize, stop: usize) -> Begun
+// A field that stands whole with its comma, from its first digit on: most are one digit, and none goes on after a leading 0. None where
+// anything else stands there, to be read byte after byte.
+fn whole_field(chunk: &[u8], from: usize, stop: usize) -> Option<Digits>
     requires { (from ≤ stop) × (stop ≤ length chunk.now) }
     ensures { FromStart chunk.now from stop result }
 {
     if stop - from < 2 {
-        return Begun::Other;
+        return None;
     }
     let byte = chunk[from];
     if !is_digit(byte) {
-        return Begun::Other;
+        return None;
     }
-    let first = (byte - b'0') as u32;
+    let first = u32::from(byte - b'0');
     if chunk[from + 1] == b',' {
-        return Begun::Whole {
-            number: first,
+        return Some(Digits {
             next: from + 2,
-        };
+            value: first,
+        });
     }
     if first == 0 {
-        return Begun::Other;
+        return None;
     }
     after_first(chunk, from + 1, stop, first)
 }
@@ -81,17 +72,12 @@ fn whole_fields(chunk: &[u8], from: usize, stop: usize, field: usize, row: &mut 
     let mut field = field;
     let mut at = from;
     while followed(field, row.len()) {
-        let begun = whole_field(chunk, at, stop);
-        match begun {
-            Begun::Whole { number, next } => {
-                row[field] = number;
-                field += 1;
-                at = next;
-            }
-            Begun::Other => {
-                return Place { field, at };
-            }
-        }
+        let Some(digits) = whole_field(chunk, at, stop) else {
+            return Place { field, at };
+        };
+        row[field] = digits.value;
+        field += 1;
+        at = digits.next;
     }
     Place { field, at }
 }
@@ -101,39 +87,25 @@ fn stop_at(size: usize, from: usize, bytes: usize) -> usize
     requires { (from ≤ size) × (bytes ≤ LONGEST) }
     ensures { (from ≤ result) × (result ≤ size) × (bytes + (result - from) ≤ LONGEST) }
 {
-    let most = 16_384 - bytes;
-    if size - from < most {
-        size
-    } else {
-        from + most
-    }
+    from + (size - from).min(LONGEST - bytes)
 }
 
 // The fields that stand whole in a chunk, where a field begins.
 pub(crate) fn open_fields(chunk: &[u8], from: usize, scan: Scan, row: &mut [u32]) -> Opened
     ensures { Comes chunk.now (length row.old) from scan row.old result.at result.scan row.new }
 {
-    match scan {
-        Scan::Start { field, bytes } => {
-            if (from <= chunk.len()) & (bytes <= 16_384) {
-                let stop = stop_at(chunk.len(), from, bytes);
-                let place = whole_fields(chunk, from, stop, field, row);
-                let at = place.at;
-                return Opened {
-                    scan: Scan::Start {
-                        field: place.field,
-                        bytes: bytes + (at - from),
-                    },
-                    at,
-                };
-            }
-            Opened { scan, at: from }
+    if let Scan::Start { field, bytes } = scan {
+        if (from <= chunk.len()) & (bytes <= LONGEST) {
+            let stop = stop_at(chunk.len(), from, bytes);
+            let Place { field, at } = whole_fields(chunk, from, stop, field, row);
+            return Opened {
+                scan: Scan::Start {
+                    field,
+                    bytes: bytes + (at - from),
+                },
+                at,
+            };
         }
-        Scan::Number {
-            field: _,
-            bytes: _,
-            value: _,
-        } => Opened { scan, at: from },
-        Scan::Return => Opened { scan, at: from },
     }
+    Opened { scan, at: from }
 }

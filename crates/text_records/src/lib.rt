@@ -13,11 +13,11 @@ mod whole_text;
 use fields::open_fields;
 use refusals::Refusal;
 use store::put;
-use text_scans::{End, Scan, Step, feed};
-use whole_text::{check_text, fit, one, store_text, unfinished};
+use text_scans::{End, Scan, Step, ended, feed, last_field};
+use whole_text::{check_text, has_room, one, store_text};
 
 // What reading on in a chunk finds.
-#[derive(Clone, Copy)]
+#[derive(Clone, Copy, Debug, PartialEq, Eq)]
 pub enum Read {
     // The record is complete, and the text goes on at this index.
     Record(usize),
@@ -27,29 +27,11 @@ pub enum Read {
     Broken,
 }
 
-// What a whole text is found to be.
-#[derive(Clone, Copy)]
-pub enum Text {
-    // So many records.
-    Holds(usize),
-    // Number 12 at the first record that breaks a rule, or 1 where its numbers do not fit the list.
-    Refused(Refusal),
-}
-
-// The digits of a field after its first: the index after them, and what all of them make.
+// Digits of a field: what they make, and the index after them, or after the comma that follows them.
 #[derive(Clone, Copy)]
 struct Digits {
     next: usize,
     value: u32,
-}
-
-// What stands at an index where a field begins.
-#[derive(Clone, Copy)]
-enum Begun {
-    // A field and the comma after it: its number, and the index after the comma.
-    Whole { number: u32, next: usize },
-    // Anything else, to be read byte after byte.
-    Other,
 }
 
 // How far the fields of a record are read: so many are complete, and the next begins at this index.
@@ -72,15 +54,9 @@ fn read_bytes(chunk: &[u8], from: usize, scan: Scan, row: &mut [u32]) -> Read
     ensures stores { row.new ≡ row_on (length row.old) scan row.old (drop from chunk.now) }
 {
     let mut scan = scan;
-    let mut at = from;
-    while at < chunk.len() {
-        let byte = chunk[at];
-        at += 1;
-        let step = feed(scan, byte, row.len());
-        match step {
-            Step::More(next) => {
-                scan = next;
-            }
+    for at in from..chunk.len() {
+        match feed(scan, chunk[at], row.len()) {
+            Step::More(next) => scan = next,
             Step::Field {
                 field,
                 number,
@@ -89,12 +65,8 @@ fn read_bytes(chunk: &[u8], from: usize, scan: Scan, row: &mut [u32]) -> Read
                 put(row, field, number);
                 scan = next;
             }
-            Step::Complete => {
-                return Read::Record(at);
-            }
-            Step::Breaks => {
-                return Read::Broken;
-            }
+            Step::Complete => return Read::Record(at + 1),
+            Step::Breaks => return Read::Broken,
         }
     }
     Read::Part(scan)
@@ -106,58 +78,43 @@ pub fn read_record(chunk: &[u8], from: usize, scan: Scan, row: &mut [u32]) -> Re
     ensures answer { result ≡ read_on (length row.old) from scan (drop from chunk.now) }
     ensures stores { row.new ≡ row_on (length row.old) scan row.old (drop from chunk.now) }
 {
-    let opened = open_fields(chunk, from, scan, row);
-    let next = opened.scan;
-    read_bytes(chunk, opened.at, next, row)
+    let Opened { scan, at } = open_fields(chunk, from, scan, row);
+    read_bytes(chunk, at, scan, row)
 }
 
 // The text ends. A record that ends with it is complete, and its last number goes to the row.
+#[tactic(auto, using(crate::proofs::Reading::row_with_last))]
 pub fn finish(scan: Scan, row: &mut [u32]) -> End
     ensures answer { result ≡ ended scan (length row.old) }
     ensures stores { row.new ≡ row_at_end (length row.old) scan row.old }
 {
-    let step = feed(scan, b'\r', row.len());
-    match step {
-        Step::Field {
-            field: last,
-            number,
-            next: _,
-        } => {
-            put(row, last, number);
-            End::Last
-        }
-        Step::More(_) => unfinished(scan),
-        Step::Complete => unfinished(scan),
-        Step::Breaks => unfinished(scan),
+    if let Some(last) = last_field(scan, row.len()) {
+        put(row, last.field, last.number);
     }
+    ended(scan, row.len())
 }
 
-// Reads a whole text of records of so many fields each into a list, one record after the other.
-pub fn read_text(text: &[u8], fields: usize, list: &mut [u32]) -> Text
+// Reads a whole text of records of so many fields each into a list, one record after the other. It answers how many records there
+// are, or number 12 at the first that breaks a rule, or 1 where their numbers do not fit the list.
+#[tactic(auto, unfolding(crate::specs::Reads::fit))]
+pub fn read_text(text: &[u8], fields: usize, list: &mut [u32]) -> Result<usize, Refusal>
     ensures answer { result ≡ fit fields (length list.old) (held fields text.now) }
     ensures stores { list.new ≡ after_reading result (numbers fields text.now) list.old }
 {
-    let found = fit(fields, list.len(), check_text(text, fields));
-    match found {
-        Text::Holds(records) => {
-            store_text(text, fields, list);
-            Text::Holds(records)
-        }
-        Text::Refused(refusal) => Text::Refused(refusal),
+    let records = check_text(text, fields)?;
+    if !has_room(list.len(), records, fields) {
+        return Err(Refusal::Length);
     }
+    store_text(text, fields, list);
+    Ok(records)
 }
 
 // Reads a text of exactly one record, of as many fields as the row has numbers.
-pub fn read_one(text: &[u8], row: &mut [u32]) -> Text
+pub fn read_one(text: &[u8], row: &mut [u32]) -> Result<usize, Refusal>
     ensures answer { result ≡ one (held (length row.old) text.now) }
     ensures stores { row.new ≡ after_reading result (numbers (length row.old) text.now) row.old }
 {
-    let found = one(check_text(text, row.len()));
-    match found {
-        Text::Holds(records) => {
-            store_text(text, row.len(), row);
-            Text::Holds(records)
-        }
-        Text::Refused(refusal) => Text::Refused(refusal),
-    }
+    let records = one(check_text(text, row.len()))?;
+    store_text(text, row.len(), row);
+    Ok(records)
 }

@@ -1,11 +1,12 @@
 -- Rules, "The text and the program": what one byte of a text does, by where the reading stands in its record.
-use Rattle.std.specs.Prelude.{ℕ, ◌+◌, ◌-◌, ◌*◌, Bool, false, ◌&&◌, not, leb, ltb, eqb}
+use Rattle.std.specs.Prelude.{ℕ, ◌+◌, ◌-◌, ◌*◌, Bool, false, ◌&&◌, not, leb, ltb, eqb, Option, Some, None}
 use Rattle.whole.specs.Search.{pick, within}
 use Rattle.text_digits.specs.Lines.{LF, CR, COMMA, DIGIT}
 use Rattle.text_scans.specs.declared.Scan.{Scan}
 use Rattle.text_scans.specs.declared.Scan.TheVariants.{Start, Number, Return}
 use Rattle.text_scans.specs.declared.Step.{Step}
 use Rattle.text_scans.specs.declared.Step.TheVariants.{More, Field, Complete, Breaks}
+use Rattle.text_scans.specs.declared.LastField.{LastField}
 use Rattle.text_scans.specs.declared.End.{End}
 use Rattle.text_scans.specs.declared.End.TheVariants.{Nothing, Last, Cut}
 
@@ -60,6 +61,13 @@ last_field (More next) other = other
 last_field (Field field number next) other = Last
 last_field Complete other = other
 last_field Breaks other = other
+
+-- the field that a step completes
+abbrev pub completed : Step → Option LastField
+completed (More next) = None
+completed (Field field number next) = Some (record { field = field; number = number })
+completed Complete = None
+completed Breaks = None
 
 -- the text ends: after a last field, as CR LF would end the record; else between records, or inside one, which breaks it
 unfoldable pub ended : Scan → ℕ → End

@@ -2,34 +2,26 @@
 ghost use Rattle.std.specs.Prelude.{◌≡◌, ◌+◌, ◌<◌, ltb, eqb};
 ghost use Rattle.text_scans.specs.Scans.{is_digit, at_start, longer, in_number};
 
-use crate::{Scan, Step};
+use crate::{LONGEST, Scan, Step};
 
 pub fn is_digit(byte: u8) -> bool
     ensures { result ≡ is_digit byte }
 {
-    (b'0' <= byte) & (byte <= b'9')
+    byte.is_ascii_digit()
 }
 
 // Whether a field is followed by another of the record.
 pub fn followed(field: usize, fields: usize) -> bool
     ensures { result ≡ ltb (field + 1) fields }
 {
-    if field < fields {
-        field + 1 < fields
-    } else {
-        false
-    }
+    field < fields && field + 1 < fields
 }
 
 // Whether a field is the record's last.
 fn is_last(field: usize, fields: usize) -> bool
     ensures { result ≡ eqb (field + 1) fields }
 {
-    if field < fields {
-        field + 1 == fields
-    } else {
-        false
-    }
+    field < fields && field + 1 == fields
 }
 
 // A byte where a field begins.
@@ -37,11 +29,11 @@ fn is_last(field: usize, fields: usize) -> bool
 pub(crate) fn at_start(field: usize, bytes: usize, byte: u8) -> Step
     ensures { result ≡ at_start field bytes byte }
 {
-    if is_digit(byte) & (bytes < 16_384) {
+    if is_digit(byte) & (bytes < LONGEST) {
         Step::More(Scan::Number {
             field,
             bytes: bytes + 1,
-            value: (byte - b'0') as u32,
+            value: u32::from(byte - b'0'),
         })
     } else {
         Step::Breaks
@@ -54,8 +46,8 @@ fn longer(field: usize, bytes: usize, value: u32, digit: u8) -> Step
     requires { digit < 10 }
     ensures { result ≡ longer field bytes value digit }
 {
-    let number = (value as u64) * 10 + (digit as u64);
-    if (value != 0) & (number <= 4_294_967_295) & (bytes < 16_384) {
+    let number = u64::from(value) * 10 + u64::from(digit);
+    if (value != 0) & (number <= 4_294_967_295) & (bytes < LONGEST) {
         Step::More(Scan::Number {
             field,
             bytes: bytes + 1,
@@ -74,7 +66,7 @@ pub(crate) fn in_number(field: usize, bytes: usize, value: u32, byte: u8, fields
     if is_digit(byte) {
         return longer(field, bytes, value, byte - b'0');
     }
-    if (byte == b',') & followed(field, fields) & (bytes < 16_384) {
+    if (byte == b',') & followed(field, fields) & (bytes < LONGEST) {
         return Step::Field {
             field,
             number: value,

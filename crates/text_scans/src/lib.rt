@@ -3,14 +3,18 @@
 #![tactic(auto)]
 
 ghost use Rattle.std.specs.Prelude.{◌≡◌};
-ghost use Rattle.text_scans.specs.Scans.{begin, feed, untouched};
+ghost use Rattle.text_digits.specs.Lines.{CR};
+ghost use Rattle.text_scans.specs.Scans.{begin, feed, untouched, completed, ended};
 
 pub mod field;
 
 use field::{at_start, in_number};
 
+// The most bytes that a record has before its end.
+pub const LONGEST: usize = 16_384;
+
 // Where the reading stands inside a record: `field` of its fields are complete, and `bytes` of its bytes are read.
-#[derive(Clone, Copy)]
+#[derive(Clone, Copy, Debug, PartialEq, Eq)]
 pub enum Scan {
     // No digit of the next field is read yet.
     Start {
@@ -28,7 +32,7 @@ pub enum Scan {
 }
 
 // What one byte does.
-#[derive(Clone, Copy)]
+#[derive(Clone, Copy, Debug, PartialEq, Eq)]
 pub enum Step {
     More(Scan),
     // The field of this index is complete.
@@ -43,8 +47,15 @@ pub enum Step {
     Breaks,
 }
 
+// The last field of a record: its index and its number.
+#[derive(Clone, Copy, Debug, PartialEq, Eq)]
+pub struct LastField {
+    pub field: usize,
+    pub number: u32,
+}
+
 // What the end of the text does.
-#[derive(Clone, Copy)]
+#[derive(Clone, Copy, Debug, PartialEq, Eq)]
 pub enum End {
     // It comes between records.
     Nothing,
@@ -87,13 +98,29 @@ pub fn feed(scan: Scan, byte: u8, fields: usize) -> Step
 pub fn untouched(scan: Scan) -> bool
     ensures { result ≡ untouched scan }
 {
-    match scan {
-        Scan::Start { field, bytes: _ } => field == 0,
-        Scan::Number {
-            field: _,
-            bytes: _,
-            value: _,
-        } => false,
-        Scan::Return => false,
+    matches!(scan, Scan::Start { field: 0, .. })
+}
+
+// The last field of a record, where the end of the text completes it, as CR LF would.
+pub fn last_field(scan: Scan, fields: usize) -> Option<LastField>
+    ensures { result ≡ completed (feed scan CR fields) }
+{
+    match feed(scan, b'\r', fields) {
+        Step::Field { field, number, .. } => Some(LastField { field, number }),
+        _ => None,
+    }
+}
+
+// What the end of the text does.
+#[tactic(auto, unfolding(crate::specs::Scans::ended))]
+pub fn ended(scan: Scan, fields: usize) -> End
+    ensures { result ≡ ended scan fields }
+{
+    if last_field(scan, fields).is_some() {
+        End::Last
+    } else if untouched(scan) {
+        End::Nothing
+    } else {
+        End::Cut
     }
 }

@@ -4,13 +4,8 @@
 
 use refusals::Refusal;
 use std::io;
-use text_digits::Written;
-use text_records::{Read, Text};
+use text_records::Read;
 use text_scans::{End, Scan};
-
-fn wide(number: u32) -> u64 {
-    number as u64
-}
 
 // Prints the bytes of a buffer before a position.
 fn print_start(rt: &impl Print, buffer: &[u8], end: usize) -> io::Result<()> {
@@ -20,55 +15,47 @@ fn print_start(rt: &impl Print, buffer: &[u8], end: usize) -> io::Result<()> {
     Ok(())
 }
 
-// Prints the number and the place of a refusal.
-fn print_refusal(rt: &impl Print, refusal: Refusal) -> io::Result<()> {
-    let number = refusals::number(refusal);
-    let place = refusals::place(refusal);
-    print!(rt; "refused {number} at {place}")
-}
-
 // Prints what was written at the start of a buffer.
-fn print_written(rt: &impl Print, written: Written, buffer: &[u8]) -> io::Result<()> {
+fn print_written(
+    rt: &impl Print,
+    written: Result<usize, Refusal>,
+    buffer: &[u8],
+) -> io::Result<()> {
     match written {
-        Written::To(end) => print_start(rt, buffer, end),
-        Written::Refused(refusal) => {
-            print_refusal(rt, refusal)?;
-            println!(rt; "")
-        }
+        Ok(end) => print_start(rt, buffer, end),
+        Err(refusal) => println!(rt; "{refusal}"),
     }
 }
 
 // Prints the four numbers of a list as a record.
 fn print_list(rt: &impl Print, list: &[u32; 4]) -> io::Result<()> {
-    let record = [wide(list[0]), wide(list[1]), wide(list[2]), wide(list[3])];
+    let record = list.map(u64::from);
     let mut line = [0u8; 64];
     let written = text_digits::write_record(&record, &mut line, 0);
     print_written(rt, written, &line)
 }
 
-// Prints what a text was found to be.
-fn print_text(rt: &impl Print, found: Text) -> io::Result<()> {
+// Prints what a text was found to be, and the list that it was read into.
+fn print_found(rt: &impl Print, found: Result<usize, Refusal>, list: &[u32; 4]) -> io::Result<()> {
     match found {
-        Text::Holds(records) => print!(rt; "holds {records}")?,
-        Text::Refused(refusal) => print_refusal(rt, refusal)?,
+        Ok(records) => print!(rt; "holds {records}: ")?,
+        Err(refusal) => print!(rt; "{refusal}: ")?,
     }
-    print!(rt; ": ")
+    print_list(rt, list)
 }
 
 // A text of two fields a record, read into a list of four numbers.
 fn pairs(rt: &impl Print, bytes: &[u8]) -> io::Result<()> {
     let mut list = [7u32; 4];
     let found = text_records::read_text(bytes, 2, &mut list);
-    print_text(rt, found)?;
-    print_list(rt, &list)
+    print_found(rt, found, &list)
 }
 
 // A text of exactly one record of four fields.
 fn one(rt: &impl Print, bytes: &[u8]) -> io::Result<()> {
     let mut row = [7u32; 4];
     let found = text_records::read_one(bytes, &mut row);
-    print_text(rt, found)?;
-    print_list(rt, &row)
+    print_found(rt, found, &row)
 }
 
 // Prints what the end of a text did.

@@ -1,7 +1,7 @@
 use Prim.Native.Nat.{◌+◌, ◌-◌}
 use mathlib.Core.Path.{refl, sym, ◌∙◌, ◌≡◌}
 use native.Mathlib.Omega.{arith}
-use borrow.Author.Tests.{le-leb, lt-leb}
+use borrow.Author.Tests.{le-leb, lt-leb, eqb-true, eqb-false}
 use lib.ListN.{length}
 use Rattle.text_digits.proofs.Lines.{line_at_most, at_least_2, no_numbers, some_numbers}
 use Rattle.whole.proofs.Tests.{same_test}
@@ -17,13 +17,13 @@ pub returns-then-room-lt2 : goal.returns-then-room-lt2
 returns-then-room-lt2 c = let a = c.args in
     sym (lt-leb (a.at + length (line_text a.numbers.now)) a.size (omega (arith, at_least_2 a.numbers.now)))
 
-pub returns-then-numbers-eq0 : goal.returns-then-numbers-eq0
-returns-then-numbers-eq0 c = let a = c.args in
-    let two : length (line_text a.numbers.now) ≡ 2 = rw (no_numbers a.numbers.now c.if-numbers-eq0.true) refl in
+pub returns-then-is_empty : goal.returns-then-is_empty
+returns-then-is_empty c = let a = c.args in
+    let two : length (line_text a.numbers.now) ≡ 2 = rw (no_numbers a.numbers.now (eqb-true _ 0 (sym c.is_empty.ensures ∙ c.if-is_empty.true))) refl in
     sym (le-leb (a.at + length (line_text a.numbers.now)) a.size (omega arith))
 
 pub returns : goal.returns
 returns c = let a = c.args in
-    let one_more = some_numbers a.numbers.now c.if-numbers-eq0.false in
+    let one_more = some_numbers a.numbers.now (eqb-false _ 0 (sym c.is_empty.ensures ∙ c.if-is_empty.false)) in
     c.further_fits.ensures
     ∙ same_test (length (further_text a.numbers.now)) (a.size - a.at - 1) (a.at + length (line_text a.numbers.now)) a.size (λ h. omega (arith, one_more)) (λ h. omega (arith, one_more))

@@ -1,18 +1,17 @@
 use Rattle.std.proofs.Common.{rules}
 use Rattle.text_records.proofs.Reading.{stores_from, store_more, store_field, store_record, store_breaks}
 use Rattle.text_records.proofs.whole_text.store_text.Goals as goal
+use Rattle.text_records.proofs.whole_text.store_text.Goals.{in-More, in-Field, in-Complete}
 
-pub loop-i-init : goal.loop-i-init
-loop-i-init c = stores_from _ _ _ c.begin-scan.ensures
+pub loop-byte-init : goal.loop-byte-init
+loop-byte-init c = stores_from _ _ _ c.begin-scan.ensures
 
-pub loop-i-preserved-in-More : goal.loop-i-preserved-in-More
-loop-i-preserved-in-More c = store_more c.loop-i.invariant (search rules) c.feed-step.ensures c.in-More.is
-
-pub loop-i-preserved-in-Field : goal.loop-i-preserved-in-Field
-loop-i-preserved-in-Field c = store_field c.loop-i.invariant (search rules) c.feed-step.ensures c.in-Field.is c.put.ensures
-
-pub loop-i-preserved : goal.loop-i-preserved
-loop-i-preserved c = store_record c.loop-i.invariant (search rules) c.feed-step.ensures c.in-Complete.is c.begin-scan-in-Complete.ensures
+pub loop-byte-preserved : goal.loop-byte-preserved
+loop-byte-preserved c = elim c.match-feed.branch [
+  | in-More w ↦ rw (w.scan-is, w.place-is, w.list-is) (store_more c.loop-byte.invariant (search rules) w.in-More.ensures)
+  | in-Field w ↦ rw (w.scan-is, w.place-is, w.list-is) (store_field c.loop-byte.invariant (search rules) w.in-Field.ensures w.put.ensures)
+  | in-Complete w ↦ rw (w.scan-is, w.place-is, w.list-is) (store_record c.loop-byte.invariant (search rules) w.in-Complete.ensures w.begin-scan-in-Complete.ensures)
+]
 
 pub returns-in-Breaks : goal.returns-in-Breaks
-returns-in-Breaks c = store_breaks c.loop-i.invariant (search rules) c.feed-step.ensures c.in-Breaks.is
+returns-in-Breaks c = store_breaks c.loop-byte.invariant (search rules) c.in-Breaks.ensures
