@@ -18,7 +18,7 @@ use layout::sheet::sheet_length;
 use refusals::Refusal;
 
 // What passes at a node: on the mainline and from the on-ramp, and whether the room there leaves the mainline free.
-#[derive(Clone, Copy)]
+#[derive(Clone, Copy, Debug, PartialEq, Eq)]
 pub struct Passed {
     pub main: u32,
     pub ramp: u32,
