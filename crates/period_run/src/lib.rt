@@ -10,7 +10,7 @@ ghost use Rattle.period_run.specs.Run.{run_lists_fit, RunDone};
 ghost use Rattle.period_run.specs.Private.{Runnable, RowsDone};
 
 use layout::sheet::sheet_length;
-use layout::{cells, demand_length, demand_space};
+use layout::{DEMAND_ROOM, cells, demand_length, space};
 use refusals::Refusal;
 
 // The periods that a run completed, and its answer.
@@ -63,8 +63,8 @@ fn run_within_limits(table: &[u32], state: &mut [u32], demand: &[u32], sheet: &m
     ensures { RowsDone asymmetric (corridor_of table.now state.old) demand.now sheet.old result state.new sheet.new }
 {
     let width = demand_length(cells(table));
-    let mut space = demand_space();
-    let limits: &mut [u32] = &mut space[..width];
+    let mut room: [u32; DEMAND_ROOM] = space();
+    let limits = &mut room[..width];
     accept_limits::demand_limits(table, limits);
     run_rows(table, limits, state, demand, sheet)
 }
