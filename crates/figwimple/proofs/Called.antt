@@ -2,12 +2,12 @@
 use Rattle.std.specs.Prelude.{Result, Ok, Err}
 use Prim.Native.Nat.{ℕ, ◌+◌, ◌*◌, ◌/◌, ◌%◌, ◌<◌}
 use mathlib.Core.Path.{◌≡◌, refl, sym, ap, ◌∙◌}
-use mathlib.Core.Bool.{Bool, true, false, not}
+use mathlib.Core.Bool.{Bool, true, false}
 use mathlib.Core.List.{List, [], ◌∷◌}
 use native.Mathlib.Omega.{arith}
 use mir.Syntax.{w64}
 use mir.Val.{Fits}
-use borrow.Author.Tests.{eqb-true, not-true, not-false}
+use borrow.Author.Tests.{eqb-true}
 use lib.Dec.{eqb}
 use lib.Ieee.{Float}
 use lib.ListN.{length, set}
@@ -127,14 +127,14 @@ calibrated_by (Ok done) diagram values e = (refl, (cc, cc))
 calibrated_by (Err r) diagram values e = (cc, (cc, cc))
 
 module _ (settings : Settings) (flow occupancy diagram : List Float) (row : List ℕ) {fits : Bool} (test : fits ≡ results_fit diagram row) where
-  pub results_refused : not fits ≡ true → {word : ℕ} → word ≡ word_of 0 (Err Length) → CalibrateCalled settings flow occupancy diagram row word diagram row
+  pub results_refused : fits ≡ false → {word : ℕ} → word ≡ word_of 0 (Err Length) → CalibrateCalled settings flow occupancy diagram row word diagram row
   results_refused fails e =
-      let none = sym test ∙ not-true _ fails in
+      let none = sym test ∙ fails in
       record { answered = rw none e; leaves_diagram = rw none; leaves_row = rw none }
 
-  module _ (passes : not fits ≡ false) where
+  module _ (passes : fits ≡ true) where
     fit : results_fit diagram row ≡ true
-    fit = sym test ∙ not-false _ passes
+    fit = sym test ∙ passes
 
     pub diagram_length : length diagram ≡ 5
     diagram_length = eqb-true _ _ (both_hold (eqb (length diagram) 5) (eqb (length row) 4) fit).0

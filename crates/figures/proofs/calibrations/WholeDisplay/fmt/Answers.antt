@@ -1,5 +1,5 @@
 use lib.Ieee.{of_bits, neg}
-use Rattle.figures.proofs.calibrations.print_whole.Goals as goal
+use Rattle.figures.proofs.calibrations.WholeDisplay.fmt.Goals as goal
 
 pub truncating_f64_to_u64-whole-requires-clause-lower_bound : goal.truncating_f64_to_u64-whole-requires-clause-lower_bound
 unfolding of_bits neg
