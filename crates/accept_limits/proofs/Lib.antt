@@ -1,4 +1,3 @@
 pub mod Limits
-pub mod Walks
 pub mod Passing
 pub mod Settled

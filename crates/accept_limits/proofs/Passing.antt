@@ -8,8 +8,7 @@ use lib.Dec.{leb}
 use lib.ListN.{length, get_or}
 use Rattle.whole.specs.Search.{every}
 use Rattle.whole.proofs.Search.{Passes, passes_every}
-use Rattle.refusals.specs.declared.Answer.TheVariants.{Accepted}
-use Rattle.refusals.specs.Checks.{answer}
+use Rattle.refusals.specs.Checks.{accepted, answer}
 use Rattle.refusals.proofs.Answers.{lengths_passed, passes_accepted}
 use Rattle.layout.specs.declared.Demands.{Demands}
 use Rattle.layout.specs.Layout.{demand_length, entry_demand, on_demand_at}
@@ -46,7 +45,7 @@ module _ (c : Corridor) (demand : List ℕ) where
   queues_pass entry ramps zero h = entry
   queues_pass entry ramps (suc i) h = passes_every (cells_of c) _ ramps i (omega arith)
 
-  pub row_passes : row_lengths_fit c demand ≡ true → WithinLimits c.table demand ≡ true → queue_holds (entry_queue_of c) (entry_demand demand) ≡ true → every (cells_of c) (λ i. queue_holds (queue_of c i) (on_demand_at demand i)) ≡ true → Accepted ≡ answer (demand_checks c demand)
+  pub row_passes : row_lengths_fit c demand ≡ true → WithinLimits c.table demand ≡ true → queue_holds (entry_queue_of c) (entry_demand demand) ≡ true → every (cells_of c) (λ i. queue_holds (queue_of c i) (on_demand_at demand i)) ≡ true → accepted ≡ answer (demand_checks c demand)
   row_passes fits within entry ramps =
       sym
       (lengths_passed (demand_numbers c demand) fits

@@ -6,13 +6,13 @@ ghost use Rattle.std.specs.Prelude.{◌≡◌, true, ℕ, ◌≤◌, ◌<◌, eq
 ghost use Rattle.whole.specs.Search.{pick, every};
 ghost use Rattle.layout.specs.Layout.{cells, state_length, demand_length, queue_at, on_demand_at};
 ghost use Rattle.layout.specs.Corridor.{corridor_of};
-ghost use Rattle.refusals.specs.Checks.{answer};
+ghost use Rattle.refusals.specs.Checks.{accepted, answer};
 ghost use Rattle.accept_ranges.specs.Ranges.{queue_limit, queue_holds};
 ghost use Rattle.accept_rows.specs.Acceptance.{row_lengths_fit, state_numbers, demand_checks};
 ghost use Rattle.accept_limits.specs.Limits.{cell_limits, demand_limits};
 
 use layout::*;
-use refusals::Answer;
+use refusals::Refusal;
 
 // The limits of a cell's demands.
 fn cell_limits(row: Row) -> Demands
@@ -32,10 +32,8 @@ pub fn demand_limits(table: &[u32], limits: &mut [u32])
     if limits.len() != demand_length(n) {
         return;
     }
-    let mut i = 0;
-    while i < n {
+    for i in 0..n {
         put_demands(limits, n, i, cell_limits(row_at(table, i)));
-        i += 1;
     }
     put_entry(limits, 1_000_000);
 }
@@ -46,10 +44,8 @@ fn within_limits(limits: &[u32], demand: &[u32]) -> bool
     ensures { result ≡ every (length demand.now) (λ i. leb (get_or demand.now i 0) (get_or limits.now i 0)) }
 {
     let mut all = true;
-    let mut i = 0;
-    while i < demand.len() {
-        all = all & (demand[i] <= limits[i]);
-        i += 1;
+    for (i, number) in demand.iter().enumerate() {
+        all &= *number <= limits[i];
     }
     all
 }
@@ -61,26 +57,29 @@ fn queues_hold(n: usize, state: &[u32], demand: &[u32]) -> bool
     ensures { result ≡ every n (λ i. queue_holds (queue_at n state.now i) (on_demand_at demand.now i)) }
 {
     let mut all = true;
-    let mut i = 0;
-    while i < n {
-        all = all & (on_demand_at(demand, i) <= 1_000_000_000 - queue_at(n, state, i));
-        i += 1;
+    for i in 0..n {
+        all &= on_demand_at(demand, i) <= 1_000_000_000 - queue_at(n, state, i);
     }
     all
 }
 
 // Whether a demand row is accepted under a table with these limits and a state that are accepted already: numbers 6 and 7.
-pub fn accept_demand(table: &[u32], limits: &[u32], state: &[u32], demand: &[u32]) -> Answer
+pub fn accept_demand(
+    table: &[u32],
+    limits: &[u32],
+    state: &[u32],
+    demand: &[u32],
+) -> Result<(), Refusal>
     requires limits_value { limits.now ≡ demand_limits table.now }
     requires demand_value { row_lengths_fit (corridor_of table.now state.now) demand.now ≡ true }
-    requires state_value { answer (state_numbers (corridor_of table.now state.now)) ≡ Answer.Accepted }
+    requires state_value { answer (state_numbers (corridor_of table.now state.now)) ≡ accepted }
     ensures { result ≡ answer (demand_checks (corridor_of table.now state.now) demand.now) }
 {
     if within_limits(limits, demand)
         & accept_ranges::queue_holds(entry_queue(state), entry_demand(demand))
         & queues_hold(cells(table), state, demand)
     {
-        return Answer::Accepted;
+        return Ok(());
     }
     accept_rows::accept_demand(table, state, demand)
 }

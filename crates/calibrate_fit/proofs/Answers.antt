@@ -1,6 +1,6 @@
 -- How an answer goes from check to check, and what the answers of the fit tell. Assumes nothing.
 use Prim.Native.Nat.{ℕ, ◌+◌, ◌≤◌}
-use mathlib.Core.Path.{◌≡◌, refl, sym, ap, ap₂, ◌∙◌}
+use mathlib.Core.Path.{◌≡◌, sym, ap, ap₂, ◌∙◌}
 use mathlib.Core.Bool.{Bool, true, ◌&&◌}
 use mathlib.Core.List.{List, [], ◌∷◌}
 use native.Mathlib.Numerals.{add-one}
@@ -9,25 +9,20 @@ use borrow.Author.Tests.{leb-true, eqb-true}
 use lib.Ieee.{Float}
 use lib.ListN.{length}
 use Rattle.refusals.specs.declared.Refusal.{Refusal}
-use Rattle.refusals.specs.declared.Answer.{Answer}
-use Rattle.refusals.specs.declared.Answer.TheVariants.{Accepted, Refused}
-use Rattle.refusals.specs.Checks.{Check, answer, lengths}
+use Rattle.std.specs.Prelude.{Result, Ok, Err}
+use Rattle.refusals.specs.Checks.{Check, accepted, answer, lengths}
 use Rattle.whole.proofs.Tests.{both_hold}
 use Rattle.refusals.proofs.Answers.{refused_stays, accepted_goes_on, accepted_passes}
 use Rattle.calibrate_fit.specs.declared.Settings.{Settings}
-use Rattle.calibrate_fit.specs.declared.Sample.{Sample}
 use Rattle.calibrate_rows.specs.declared.Diagram.{Diagram}
 use Rattle.calibrate_rows.specs.declared.RowValues.{RowValues}
 use Rattle.calibrate_rows.specs.declared.RowNumbers.{RowNumbers}
-use Rattle.calibrate_fit.specs.declared.FitAnswer.{FitAnswer}
-use Rattle.calibrate_fit.specs.declared.FitAnswer.TheVariants.{Fitted, NotFitted}
-use Rattle.calibrate_rows.specs.declared.RowAnswer.{RowAnswer}
-use Rattle.calibrate_rows.specs.declared.RowAnswer.TheVariants.{Made, NotMade}
-use Rattle.calibrate_fit.specs.declared.Calibration.TheVariants.{Calibrated, NotCalibrated}
-use Rattle.calibrate_fit.specs.Samples.{vehicle_fits, lanes_fit, sample_at, usable}
+use Rattle.calibrate_fit.specs.declared.Calibrated.{Calibrated}
+use Rattle.calibrate_fit.specs.Samples.{Reading, vehicle_fits, lanes_fit, sample_at, usable}
+use Rattle.calibrate_rows.specs.RowNumbers.{row_numbers}
 use Rattle.calibrate_rows.specs.Rows.{cell_settings_fit, values_fit, row_as, row_made}
-use Rattle.calibrate_rows.proofs.Answers.{test_passes, not_made_by, made_by}
-use Rattle.calibrate_fit.specs.Calibration.{lengths_fit, settings_fit, samples_usable, fit_checks, fitted_diagram, fitted_values, fit_as, calibrated_as, fit_of, calibration_of}
+use Rattle.calibrate_rows.proofs.Answers.{test_passes, refused_by, asked_by}
+use Rattle.calibrate_fit.specs.Calibration.{lengths_fit, settings_fit, samples_usable, fit_checks, fitted_diagram, fitted_values, calibrated_as, fit_of, calibration_of}
 
 -- what fitting lengths say
 pub record Lengths (settings : Settings) (flow occupancy : List Float) : Type 0 where
@@ -43,17 +38,8 @@ lengths_fit_lem settings flow occupancy e =
     record { equal = eqb-true _ _ few.0; few = leb-true _ _ few.1; within = leb-true _ _ within.1 }
 
 -- the test of number 9 at the place of a sample, which was read and found usable or not
-pub tested : (settings : Settings) (flow occupancy : List Float) (i : ℕ) {sample : Sample} {r : Bool} → sample ≡ sample_at settings flow occupancy i → r ≡ usable sample → r ≡ (samples_usable settings flow occupancy).test (i + 1)
+pub tested : (settings : Settings) (flow occupancy : List Float) (i : ℕ) {reading : Reading} {r : Bool} → reading ≡ sample_at settings flow occupancy i → r ≡ usable reading → r ≡ (samples_usable settings flow occupancy).test (i + 1)
 tested settings flow occupancy i read e = rw add-one (e ∙ ap usable read)
-
--- what an answer of the fit tells
-pub not_fitted_by : (a : Answer) (diagram : Diagram) {refusal : Refusal} → NotFitted refusal ≡ fit_as a diagram → Refused refusal ≡ a
-not_fitted_by Accepted diagram e = cc
-not_fitted_by (Refused r) diagram e = cc
-
-pub fitted_by : (a : Answer) (diagram : Diagram) {found : Diagram} → Fitted found ≡ fit_as a diagram → (Accepted ≡ a) × (found ≡ diagram)
-fitted_by Accepted diagram e = (refl, cc)
-fitted_by (Refused r) diagram e = (cc, cc)
 
 -- ---- from the fit and the row to the calibration
 module _ (settings : Settings) (flow occupancy : List Float) where
@@ -70,35 +56,37 @@ module _ (settings : Settings) (flow occupancy : List Float) where
   later = values_fit values ∷ []
 
   -- where the fit is accepted, number 9 found nothing at place 0
-  pub settings_in_range : Accepted ≡ answer first → settings_fit settings ≡ true
+  pub settings_in_range : accepted ≡ answer first → settings_fit settings ≡ true
   settings_in_range e =
       let after_1 = (accepted_passes (lengths (lengths_fit settings flow occupancy)) _ (sym e)).1 in
       (accepted_passes (samples_usable settings flow occupancy) _ after_1).0 0 (omega arith)
 
-  pub cell_in_range : Accepted ≡ answer first → cell_settings_fit settings.period settings.cell ≡ true
+  pub cell_in_range : accepted ≡ answer first → cell_settings_fit settings.period settings.cell ≡ true
   cell_in_range e = (both_hold (vehicle_fits settings.g && lanes_fit settings.lanes) _ (settings_in_range e)).1
 
-  pub not_fitted : {fit : FitAnswer} {refusal : Refusal} → fit ≡ fit_of settings flow occupancy → fit ≡ NotFitted refusal → NotCalibrated refusal ≡ calibration_of settings flow occupancy
-  not_fitted e is = ap (λ a. calibrated_as a diagram values) (refused_stays first later (not_fitted_by (answer first) diagram (sym is ∙ e)))
+  pub not_fitted : {refusal : Refusal} → Err refusal ≡ fit_of settings flow occupancy → Err refusal ≡ calibration_of settings flow occupancy
+  not_fitted e = ap (λ a. calibrated_as a diagram values) (refused_stays first later (refused_by (answer first) diagram e))
 
   -- the fit is a diagram, and a row was made of it or not; under settings in range the row maker asks number 11 alone
-  module _ {fit : FitAnswer} {found : Diagram} {row : RowAnswer} (e : fit ≡ fit_of settings flow occupancy) (is : fit ≡ Fitted found) (r : row ≡ row_made found settings.period settings.cell) where
-    fitted : (Accepted ≡ answer first) × (found ≡ diagram)
-    fitted = fitted_by (answer first) diagram (sym is ∙ e)
+  module _ {found : Diagram} (e : Ok found ≡ fit_of settings flow occupancy) where
+    fitted : (accepted ≡ answer first) × (found ≡ diagram)
+    fitted = asked_by (answer first) diagram e
 
-    row_is : row ≡ row_as (answer later) values
+    row_is : row_made found settings.period settings.cell ≡ row_as (answer later) values
     row_is =
-        r
-        ∙ ap (λ d. row_made d settings.period settings.cell) fitted.1
+        ap (λ d. row_made d settings.period settings.cell) fitted.1
         ∙ ap (λ a. row_as a values) (sym (test_passes _ (answer later) (cell_in_range fitted.0)))
 
-    pub not_made : {refusal : Refusal} → row ≡ NotMade refusal → NotCalibrated refusal ≡ calibration_of settings flow occupancy
+    pub not_made : {refusal : Refusal} → Err refusal ≡ row_made found settings.period settings.cell → Err refusal ≡ calibration_of settings flow occupancy
     not_made made =
         ap (λ a. calibrated_as a diagram values)
-        (accepted_goes_on first later fitted.0 (not_made_by (answer later) values (sym made ∙ row_is)))
+        (accepted_goes_on first later fitted.0 (refused_by (answer later) (row_numbers values) (made ∙ row_is)))
 
-    pub calibrated : {numbers : RowNumbers} → row ≡ Made numbers → Calibrated found numbers ≡ calibration_of settings flow occupancy
+    pub calibrated : {row : RowNumbers} → Ok row ≡ row_made found settings.period settings.cell → ◌≡◌ {A = Result Calibrated Refusal} (Ok (record { diagram = found; row = row })) (calibration_of settings flow occupancy)
     calibrated made =
-        let numbers_are = made_by (answer later) values (sym made ∙ row_is) in
-        ap₂ Calibrated fitted.1 numbers_are.1
-        ∙ ap (λ a. calibrated_as a diagram values) (accepted_goes_on first later fitted.0 numbers_are.0)
+        let row_made = asked_by (answer later) (row_numbers values) (made ∙ row_is) in
+        ap₂ both fitted.1 row_made.1
+        ∙ ap (λ a. calibrated_as a diagram values) (accepted_goes_on first later fitted.0 row_made.0)
+      where
+        both : Diagram → RowNumbers → Result Calibrated Refusal
+        both diagram row = Ok (record { diagram = diagram; row = row })

@@ -5,10 +5,9 @@ use mathlib.Core.Bool.{Bool, true, false, not, ◌&&◌, ◌||◌, false≢true}
 use mathlib.Core.List.{List, [], ◌∷◌}
 use lib.Ieee.{Float, of_int, eq}
 use Rattle.refusals.specs.declared.Refusal.TheVariants.{Fit}
-use Rattle.refusals.specs.declared.Answer.TheVariants.{Accepted}
-use Rattle.refusals.specs.Checks.{answer}
-use Rattle.calibrate_fit.specs.declared.FitAnswer.TheVariants.{Fitted, NotFitted}
-use Rattle.calibrate_fit.specs.declared.Sample.{Sample}
+use Rattle.std.specs.Prelude.{Ok, Err}
+use Rattle.refusals.specs.Checks.{accepted, answer}
+use Rattle.calibrate_fit.specs.Samples.{Reading}
 use Rattle.calibrate_fit.specs.declared.Sums.{Sums}
 use Rattle.calibrate_rows.specs.declared.Diagram.{Diagram}
 use Rattle.calibrate_rows.specs.Doubles.{◌⊕◌, ◌⊘◌, is_zero}
@@ -17,7 +16,7 @@ use Rattle.calibrate_rows.proofs.Answers.{test_fails, test_passes}
 use Rattle.calibrate_fit.specs.Diagrams.{sum_over, ratio, density_squared, speed_sums, largest_flow, above, excess_squared, wave_sums, diagram_of, is_empty, can_be_fitted}
 
 -- nothing sums to zero
-empty_sum : (term : Float → Float → Float) (all : List Sample) → is_empty all ≡ true → is_zero (sum_over term all) ≡ true
+empty_sum : (term : Float → Float → Float) (all : List Reading) → is_empty all ≡ true → is_zero (sum_over term all) ≡ true
 unfolding of_int eq
 empty_sum term [] e = refl
 empty_sum term (sample ∷ rest) e = absurd (false≢true e)
@@ -33,7 +32,7 @@ four_of_six false false false false true over h k = refl
 four_of_six false false false false false true h k = absurd (false≢true (k refl))
 four_of_six false false false false false false h k = refl
 
-module _ (free all : List Sample) (speeds waves : Sums) (capacity : Float) (s : speeds ≡ speed_sums free) (k : capacity ≡ largest_flow all) (w : waves ≡ wave_sums capacity (capacity ⊘ ratio speeds) all) where
+module _ (free all : List Reading) (speeds waves : Sums) (capacity : Float) (s : speeds ≡ speed_sums free) (k : capacity ≡ largest_flow all) (w : waves ≡ wave_sums capacity (capacity ⊘ ratio speeds) all) where
   diagram_is : ◌≡◌ {A = Diagram} (record { speed = ratio speeds; capacity = capacity; critical = capacity ⊘ ratio speeds; wave = ratio waves; jam = (capacity ⊘ ratio speeds) ⊕ capacity ⊘ ratio waves }) (diagram_of free all)
   unfolding diagram_of
   diagram_is = rw (w, s, k)
@@ -47,10 +46,10 @@ module _ (free all : List Sample) (speeds waves : Sums) (capacity : Float) (s : 
       (four_of_six (is_empty free) _ _ _ _ (is_empty (above critical all)) (empty_sum density_squared free) (empty_sum (excess_squared critical) (above critical all))))
 
   -- the code's test went one way or the other
-  pub no_diagram : (is_zero speeds.bottom || is_zero (ratio speeds) || is_zero waves.bottom || is_zero (ratio waves)) ≡ true → NotFitted Fit ≡ fit_as (answer (record { places = 1; test = λ _. can_be_fitted free all; refusal = λ _. Fit } ∷ [])) (diagram_of free all)
-  no_diagram zero = ap (λ a. fit_as a (diagram_of free all)) (test_fails (λ _. Fit) Accepted (sym fits_unless ∙ ap not zero))
+  pub no_diagram : (is_zero speeds.bottom || is_zero (ratio speeds) || is_zero waves.bottom || is_zero (ratio waves)) ≡ true → Err Fit ≡ fit_as (answer (record { places = 1; test = λ _. can_be_fitted free all; refusal = λ _. Fit } ∷ [])) (diagram_of free all)
+  no_diagram zero = ap (λ a. fit_as a (diagram_of free all)) (test_fails (λ _. Fit) accepted (sym fits_unless ∙ ap not zero))
 
-  pub the_diagram : (is_zero speeds.bottom || is_zero (ratio speeds) || is_zero waves.bottom || is_zero (ratio waves)) ≡ false → Fitted (record { speed = ratio speeds; capacity = capacity; critical = capacity ⊘ ratio speeds; wave = ratio waves; jam = (capacity ⊘ ratio speeds) ⊕ capacity ⊘ ratio waves }) ≡ fit_as (answer (record { places = 1; test = λ _. can_be_fitted free all; refusal = λ _. Fit } ∷ [])) (diagram_of free all)
+  pub the_diagram : (is_zero speeds.bottom || is_zero (ratio speeds) || is_zero waves.bottom || is_zero (ratio waves)) ≡ false → Ok (record { speed = ratio speeds; capacity = capacity; critical = capacity ⊘ ratio speeds; wave = ratio waves; jam = (capacity ⊘ ratio speeds) ⊕ capacity ⊘ ratio waves }) ≡ fit_as (answer (record { places = 1; test = λ _. can_be_fitted free all; refusal = λ _. Fit } ∷ [])) (diagram_of free all)
   the_diagram none =
-      ap Fitted diagram_is
-      ∙ ap (λ a. fit_as a (diagram_of free all)) (test_passes (λ _. Fit) Accepted (sym fits_unless ∙ ap not none))
+      ap Ok diagram_is
+      ∙ ap (λ a. fit_as a (diagram_of free all)) (test_passes (λ _. Fit) accepted (sym fits_unless ∙ ap not none))

@@ -8,15 +8,14 @@ use native.Mathlib.Omega.{arith}
 use lib.Ieee.{Float}
 use lib.ListN.{length, get_or}
 use lib.Seq.{drop-cons, take-length}
+use Rattle.std.specs.Prelude.{Err}
 use Rattle.whole.specs.Search.{pick}
 use Rattle.whole.proofs.Lists.{build-length, build_at}
 use Rattle.calibrate_fit.specs.declared.Settings.{Settings}
-use Rattle.calibrate_fit.specs.declared.Sample.{Sample}
-use Rattle.calibrate_fit.specs.declared.Sample.TheVariants.{Unusable}
 use Rattle.calibrate_fit.specs.declared.Cause.TheVariants.{FlowNotFinite}
 use Rattle.calibrate_fit.specs.declared.Sums.{Sums}
 use Rattle.calibrate_rows.specs.Doubles.{double}
-use Rattle.calibrate_fit.specs.Samples.{sample_at, samples, stretch}
+use Rattle.calibrate_fit.specs.Samples.{Reading, sample_at, samples, stretch}
 use Rattle.calibrate_fit.specs.Diagrams.{adds, is_above, above}
 use Rattle.calibrate_fit.specs.Private.{adds_above}
 
@@ -26,34 +25,34 @@ unfolding samples
 samples_length settings flow occupancy = build-length (length flow) (sample_at settings flow occupancy)
 
 -- any sample, where a list ends
-abbrev none : Sample
-none = Unusable FlowNotFinite
+abbrev none : Reading
+none = Err FlowNotFinite
 
 pub sample_at_lem : (settings : Settings) (flow occupancy : List Float) (i : ℕ) → i < length flow → get_or (samples settings flow occupancy) i none ≡ sample_at settings flow occupancy i
 unfolding samples
 sample_at_lem settings flow occupancy i h = build_at (length flow) (sample_at settings flow occupancy) i none h
 
 -- a stretch is its first sample and the stretch from the next
-stretch-cons : (all : List Sample) (i end : ℕ) → i < end → end ≤ length all → stretch i end all ≡ get_or all i none ∷ stretch (i + 1) end all
+stretch-cons : (all : List Reading) (i end : ℕ) → i < end → end ≤ length all → stretch i end all ≡ get_or all i none ∷ stretch (i + 1) end all
 stretch-cons all i end h fit =
     let within : i < length all = omega arith in
     let more : end - i ≡ suc (end - suc i) = omega arith in
     rw (more, add-one i, drop-cons all i none within)
 
-stretch_ends : (all : List Sample) (i end : ℕ) → end ≤ i → stretch i end all ≡ []
+stretch_ends : (all : List Reading) (i end : ℕ) → end ≤ i → stretch i end all ≡ []
 stretch_ends all i end h = let none_left : end - i ≡ 0 = omega arith in rw none_left
 
-pub stretch_whole : (all : List Sample) (n : ℕ) → n ≡ length all → stretch 0 n all ≡ all
+pub stretch_whole : (all : List Reading) (n : ℕ) → n ≡ length all → stretch 0 n all ≡ all
 stretch_whole all n e = let whole : n - 0 ≡ length all = omega arith in rw whole (take-length all)
 
 -- what a total comes to over a list of samples, and the step that takes one sample into it
 pub record Pass : Type 0 where
-  pub onward : Float → List Sample → Float
-  pub step : Float → Sample → Float
+  pub onward : Float → List Reading → Float
+  pub step : Float → Reading → Float
   pub stops : (total : Float) → onward total [] ≡ total
-  pub steps : (total : Float) (sample : Sample) (rest : List Sample) → onward total (sample ∷ rest) ≡ onward (step total sample) rest
+  pub steps : (total : Float) (sample : Reading) (rest : List Reading) → onward total (sample ∷ rest) ≡ onward (step total sample) rest
 
-abbrev pub folding : (Float → Sample → Float) → Pass
+abbrev pub folding : (Float → Reading → Float) → Pass
 folding step = record { onward = foldl step; step = step; stops = λ total. refl; steps = λ total sample rest. refl }
 
 abbrev pub summing : (Float → Float → Float) → Pass
@@ -68,27 +67,27 @@ summing_above critical term =
       steps = λ total sample rest. by (is_above critical sample) total sample (above critical rest);
     }
   where
-    by : (b : Bool) (total : Float) (sample : Sample) (rest : List Sample) → foldl (adds term) total (pick b (sample ∷ rest) rest) ≡ foldl (adds term) (pick b (adds term total sample) total) rest
+    by : (b : Bool) (total : Float) (sample : Reading) (rest : List Reading) → foldl (adds term) total (pick b (sample ∷ rest) rest) ≡ foldl (adds term) (pick b (adds term total sample) total) rest
     by true total sample rest = refl
     by false total sample rest = refl
 
 -- where a pass from start to end stands at i: the samples left bring its total to what the whole stretch gives
-pub record Passing (pass : Pass) (all : List Sample) (start end i : ℕ) (total : Float) : Type 0 where
+pub record Passing (pass : Pass) (all : List Reading) (start end i : ℕ) (total : Float) : Type 0 where
   pub gives : pass.onward total (stretch i end all) ≡ pass.onward (double 0) (stretch start end all)
 
-pub begins : (pass : Pass) (all : List Sample) (start end : ℕ) → Passing pass all start end start (double 0)
+pub begins : (pass : Pass) (all : List Reading) (start end : ℕ) → Passing pass all start end start (double 0)
 begins pass all start end = record { gives = refl }
 
-pub ends : {pass : Pass} {all : List Sample} {start end i : ℕ} {total : Float} → Passing pass all start end i total → end ≤ i → total ≡ pass.onward (double 0) (stretch start end all)
+pub ends : {pass : Pass} {all : List Reading} {start end i : ℕ} {total : Float} → Passing pass all start end i total → end ≤ i → total ≡ pass.onward (double 0) (stretch start end all)
 ends {pass} {all} {end = end} {i} {total} at h =
     sym (pass.stops total) ∙ sym (ap (pass.onward total) (stretch_ends all i end h)) ∙ at.gives
 
 -- the same over the samples that are read from two lists
 module _ (settings : Settings) (flow occupancy : List Float) where
-  abbrev all : List Sample
+  abbrev all : List Reading
   all = samples settings flow occupancy
 
-  pub goes_on : {pass : Pass} {start end i : ℕ} {total next : Float} {sample : Sample} → Passing pass all start end i total → i < end → end ≤ length flow → sample ≡ sample_at settings flow occupancy i → next ≡ pass.step total sample → Passing pass all start end (i + 1) next
+  pub goes_on : {pass : Pass} {start end i : ℕ} {total next : Float} {sample : Reading} → Passing pass all start end i total → i < end → end ≤ length flow → sample ≡ sample_at settings flow occupancy i → next ≡ pass.step total sample → Passing pass all start end (i + 1) next
   goes_on {pass} {start} {end} {i} {total} {next} {sample} at h fit read stepped =
       record {
         gives =

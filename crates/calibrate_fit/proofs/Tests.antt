@@ -1,22 +1,21 @@
--- Finite doubles: how the code tests for one, and that a flow or an occupancy in range is one; and what a usable sample is. Assumes nothing.
+-- Finite doubles: how the standard library tests for one, and that a flow or an occupancy in range is one; and what a usable sample is.
+-- Assumes nothing.
 use Prim.Native.Nat.{ℕ}
 use mathlib.Core.Path.{◌≡◌, refl, sym, ◌∙◌}
-use mathlib.Core.Bool.{Bool, true, false, ◌&&◌, false≢true}
-use lib.Ieee.{Float, nan, inf, fin, lt, le, of_int}
+use mathlib.Core.Bool.{Bool, true, false, false≢true}
+use lib.Ieee.{Float, nan, inf, fin, le, of_int}
+use Rattle.std.specs.Float.{float_is_finite}
+use Rattle.std.specs.Prelude.{Ok, Err}
 use Rattle.whole.specs.Search.{pick}
-use Rattle.calibrate_rows.specs.Doubles.{finite, unsigned}
-use Rattle.calibrate_fit.specs.declared.Sample.{Sample}
-use Rattle.calibrate_fit.specs.declared.Sample.TheVariants.{Good, Unusable}
+use Rattle.calibrate_rows.specs.Doubles.{finite}
 use Rattle.calibrate_fit.specs.declared.Cause.TheVariants.{FlowNotFinite, FlowOutOfRange, OccupancyNotFinite, OccupancyOutOfRange}
-use Rattle.calibrate_fit.specs.Samples.{flow_in_range, occupancy_in_range, density, sample_of, usable}
+use Rattle.calibrate_fit.specs.Samples.{Reading, flow_in_range, occupancy_in_range, good_sample, sample_of, usable}
 
--- strictly between the two infinities
-pub between_infinities : (x : Float) → (lt (inf true) x && lt x (inf false)) ≡ finite x
-unfolding lt
-between_infinities nan = refl
-between_infinities (inf true) = refl
-between_infinities (inf false) = refl
-between_infinities (fin negative m e) = refl
+pub finite_is : (x : Float) → float_is_finite x ≡ finite x
+unfolding float_is_finite
+finite_is nan = refl
+finite_is (inf negative) = refl
+finite_is (fin negative m e) = refl
 
 -- a test that neither a NaN nor an infinity passes is passed by finite doubles alone
 only_finite : (test : Float → Bool) → test nan ≡ false → test (inf true) ≡ false → test (inf false) ≡ false → (x : Float) → test x ≡ true → finite x ≡ true
@@ -34,16 +33,16 @@ unfolding le of_int
 occupancy_is_finite = only_finite occupancy_in_range refl refl refl
 
 -- a usable sample has passed each test of its reading
-pub usable_is_good : (g : Float) (lanes : ℕ) (flow occupancy : Float) → usable (sample_of g lanes flow occupancy) ≡ true → sample_of g lanes flow occupancy ≡ Good (unsigned flow) (density g lanes (unsigned occupancy))
+pub usable_is_good : (g : Float) (lanes : ℕ) (flow occupancy : Float) → usable (sample_of g lanes flow occupancy) ≡ true → sample_of g lanes flow occupancy ≡ Ok (good_sample g lanes flow occupancy)
 unfolding sample_of
 usable_is_good g lanes flow occupancy = by (finite flow) (flow_in_range flow) (finite occupancy) (occupancy_in_range occupancy)
   where
-    good : Sample
-    good = Good (unsigned flow) (density g lanes (unsigned occupancy))
+    good : Reading
+    good = Ok (good_sample g lanes flow occupancy)
 
-    read : Bool → Bool → Bool → Bool → Sample
+    read : Bool → Bool → Bool → Bool → Reading
     read a b c d =
-        pick a (pick b (pick c (pick d good (Unusable OccupancyOutOfRange)) (Unusable OccupancyNotFinite)) (Unusable FlowOutOfRange)) (Unusable FlowNotFinite)
+        pick a (pick b (pick c (pick d good (Err OccupancyOutOfRange)) (Err OccupancyNotFinite)) (Err FlowOutOfRange)) (Err FlowNotFinite)
 
     by : (a b c d : Bool) → usable (read a b c d) ≡ true → read a b c d ≡ good
     by true true true true e = refl

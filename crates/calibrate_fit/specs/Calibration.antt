@@ -1,21 +1,17 @@
 -- Rules, "Refusal numbers" 1, 9, 10 and 11: what is asked of samples, settings, a fit and a calibration, and what is answered.
-use Rattle.std.specs.Prelude.{◌+◌, Bool, ◌&&◌, List, [], ◌∷◌, ◌++◌, leb, eqb, Float, length}
+use Rattle.std.specs.Prelude.{◌+◌, Bool, ◌&&◌, List, [], ◌∷◌, ◌++◌, leb, eqb, Float, length, Result}
 use Rattle.whole.specs.Sums.{at_position}
+use Rattle.refusals.specs.declared.Refusal.{Refusal}
 use Rattle.refusals.specs.declared.Refusal.TheVariants.{Sample, Fit}
-use Rattle.refusals.specs.declared.Answer.{Answer}
-use Rattle.refusals.specs.declared.Answer.TheVariants.{Accepted, Refused}
-use Rattle.refusals.specs.Checks.{Check, answer, lengths}
+use Rattle.refusals.specs.Checks.{Answer, Check, answer, lengths}
 use Rattle.calibrate_fit.specs.declared.Settings.{Settings}
 use Rattle.calibrate_rows.specs.declared.Diagram.{Diagram}
 use Rattle.calibrate_rows.specs.declared.RowValues.{RowValues}
-use Rattle.calibrate_fit.specs.declared.FitAnswer.{FitAnswer}
-use Rattle.calibrate_fit.specs.declared.FitAnswer.TheVariants.{Fitted, NotFitted}
-use Rattle.calibrate_fit.specs.declared.Calibration.{Calibration}
-use Rattle.calibrate_fit.specs.declared.Calibration.TheVariants.{Calibrated, NotCalibrated}
+use Rattle.calibrate_fit.specs.declared.Calibrated.{Calibrated}
 use Rattle.calibrate_fit.specs.Samples.{vehicle_fits, lanes_fit, sample_at, usable, samples}
 use Rattle.calibrate_fit.specs.Diagrams.{free_of, diagram_of, can_be_fitted}
 use Rattle.calibrate_rows.specs.RowNumbers.{row_values, row_numbers}
-use Rattle.calibrate_rows.specs.Rows.{cell_settings_fit, values_fit}
+use Rattle.calibrate_rows.specs.Rows.{cell_settings_fit, values_fit, refused_or}
 
 -- 1: equally long lists, of at most 65,536 samples, and a free stretch that ends neither past the samples nor before it starts
 abbrev pub lengths_fit : Settings → List Float → List Float → Bool
@@ -63,17 +59,15 @@ calibration_checks settings flow occupancy = fit_checks settings flow occupancy 
 
 -- the refusal, or what was asked for where there is none
 
-abbrev pub fit_as : Answer → Diagram → FitAnswer
-fit_as Accepted diagram = Fitted diagram
-fit_as (Refused refusal) diagram = NotFitted refusal
+abbrev pub fit_as : Answer → Diagram → Result Diagram Refusal
+fit_as a diagram = refused_or a diagram
 
-abbrev pub calibrated_as : Answer → Diagram → RowValues → Calibration
-calibrated_as Accepted diagram values = Calibrated diagram (row_numbers values)
-calibrated_as (Refused refusal) diagram values = NotCalibrated refusal
+abbrev pub calibrated_as : Answer → Diagram → RowValues → Result Calibrated Refusal
+calibrated_as a diagram values = refused_or a (record { diagram = diagram; row = row_numbers values })
 
-abbrev pub fit_of : Settings → List Float → List Float → FitAnswer
+abbrev pub fit_of : Settings → List Float → List Float → Result Diagram Refusal
 fit_of settings flow occupancy = fit_as (answer (fit_checks settings flow occupancy)) (fitted_diagram settings flow occupancy)
 
-abbrev pub calibration_of : Settings → List Float → List Float → Calibration
+abbrev pub calibration_of : Settings → List Float → List Float → Result Calibrated Refusal
 calibration_of settings flow occupancy =
     calibrated_as (answer (calibration_checks settings flow occupancy)) (fitted_diagram settings flow occupancy) (fitted_values settings flow occupancy)

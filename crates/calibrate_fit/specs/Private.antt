@@ -3,8 +3,7 @@
 use Rattle.std.specs.Prelude.{ℕ, ◌<◌, ◌≡◌, true, List, Float, length}
 use Rattle.whole.specs.Search.{pick}
 use Rattle.calibrate_fit.specs.declared.Settings.{Settings}
-use Rattle.calibrate_fit.specs.declared.Sample.{Sample}
-use Rattle.calibrate_fit.specs.Samples.{sample_at, usable}
+use Rattle.calibrate_fit.specs.Samples.{Reading, sample_at, usable}
 use Rattle.calibrate_fit.specs.Diagrams.{adds, is_above}
 
 -- no sample of two lists is refused
@@ -12,5 +11,5 @@ abbrev pub AllUsable : Settings → List Float → List Float → Type 0
 AllUsable settings flow occupancy = (i : ℕ) → i < length flow → usable (sample_at settings flow occupancy i) ≡ true
 
 -- a step of a sum over the samples above critical, in a pass over all samples
-abbrev pub adds_above : Float → (Float → Float → Float) → Float → Sample → Float
+abbrev pub adds_above : Float → (Float → Float → Float) → Float → Reading → Float
 adds_above critical term total sample = pick (is_above critical sample) (adds term total sample) total

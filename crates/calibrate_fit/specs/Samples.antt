@@ -1,11 +1,11 @@
 -- Rules, "Calibration": the settings g and lanes, and how a sample is read.
-use Rattle.std.specs.Prelude.{ℕ, ◌-◌, Bool, true, false, List, Float, length, get_or, take, drop}
+use Rattle.std.specs.Prelude.{ℕ, ◌-◌, Bool, true, false, List, Float, length, get_or, take, drop, Result, Ok, Err}
 use Rattle.std.specs.Float.{nan}
 use Rattle.whole.specs.Search.{pick, within}
 use Rattle.whole.specs.Lists.{build}
 use Rattle.calibrate_fit.specs.declared.Settings.{Settings}
 use Rattle.calibrate_fit.specs.declared.Sample.{Sample}
-use Rattle.calibrate_fit.specs.declared.Sample.TheVariants.{Good, Unusable}
+use Rattle.calibrate_fit.specs.declared.Cause.{Cause}
 use Rattle.calibrate_fit.specs.declared.Cause.TheVariants.{FlowNotFinite, FlowOutOfRange, OccupancyNotFinite, OccupancyOutOfRange}
 use Rattle.calibrate_rows.specs.Doubles.{◌⊗◌, ◌⊘◌, double, finite, between, unsigned}
 
@@ -27,28 +27,35 @@ occupancy_in_range occupancy = between (double 0) (double 1) occupancy
 abbrev pub density : Float → ℕ → Float → Float
 density g lanes occupancy = (occupancy ⊘ g) ⊗ double lanes
 
+-- a flow in range with its density, both without a minus zero that was read
+abbrev pub good_sample : Float → ℕ → Float → Float → Sample
+good_sample g lanes flow occupancy = record { flow = unsigned flow; density = density g lanes (unsigned occupancy) }
+
 -- a sample is read either as a flow with a density, or as unusable with the first cause
-unfoldable pub sample_of : Float → ℕ → Float → Float → Sample
+abbrev pub Reading : Type 0
+Reading = Result Sample Cause
+
+unfoldable pub sample_of : Float → ℕ → Float → Float → Reading
 sample_of g lanes flow occupancy =
     pick (finite flow)
     (pick (flow_in_range flow)
     (pick (finite occupancy)
-    (pick (occupancy_in_range occupancy) (Good (unsigned flow) (density g lanes (unsigned occupancy))) (Unusable OccupancyOutOfRange))
-    (Unusable OccupancyNotFinite))
-    (Unusable FlowOutOfRange))
-    (Unusable FlowNotFinite)
+    (pick (occupancy_in_range occupancy) (Ok (good_sample g lanes flow occupancy)) (Err OccupancyOutOfRange))
+    (Err OccupancyNotFinite))
+    (Err FlowOutOfRange))
+    (Err FlowNotFinite)
 
-abbrev pub usable : Sample → Bool
-usable (Good flow density) = true
-usable (Unusable cause) = false
+abbrev pub usable : Reading → Bool
+usable (Ok sample) = true
+usable (Err cause) = false
 
 -- two lists, flow and occupancy, in sample order
-abbrev pub sample_at : Settings → List Float → List Float → ℕ → Sample
+abbrev pub sample_at : Settings → List Float → List Float → ℕ → Reading
 sample_at settings flow occupancy i = sample_of settings.g settings.lanes (get_or flow i nan) (get_or occupancy i nan)
 
-unfoldable pub samples : Settings → List Float → List Float → List Sample
+unfoldable pub samples : Settings → List Float → List Float → List Reading
 samples settings flow occupancy = build (length flow) (sample_at settings flow occupancy)
 
 -- a stretch of samples, its start and end counted from 0, the end not included
-abbrev pub stretch : ℕ → ℕ → List Sample → List Sample
+abbrev pub stretch : ℕ → ℕ → List Reading → List Reading
 stretch start end all = take (end - start) (drop start all)

@@ -1,22 +1,7 @@
-// Doubles as the rules read them: finite, in a range, with minus zero counted as zero; and one of two picked by a test.
+// Doubles as the rules read them, with minus zero counted as zero; and one of two picked by a test.
 ghost use Rattle.std.specs.Prelude.{◌≡◌};
 ghost use Rattle.whole.specs.Search.{pick};
-ghost use Rattle.calibrate_rows.specs.Doubles.{finite, between, unsigned};
-
-// Neither a NaN nor an infinity: strictly between the two infinities.
-pub(crate) fn finite(x: f64) -> bool
-    ensures { result ≡ finite x }
-{
-    let top = 1.0 / 0.0;
-    (-top < x) & (x < top)
-}
-
-// Whether x is at least low and at most high; a NaN is not.
-pub(crate) fn between(low: f64, high: f64, x: f64) -> bool
-    ensures { result ≡ between low high x }
-{
-    (low <= x) & (x <= high)
-}
+ghost use Rattle.calibrate_rows.specs.Doubles.{unsigned};
 
 // Minus zero counts as zero.
 pub(crate) fn unsigned(x: f64) -> f64

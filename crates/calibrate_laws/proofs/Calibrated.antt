@@ -14,32 +14,27 @@ use lib.Ieee.Positive as positive
 use lib.ListN.{length, take, drop, length-take, length-drop}
 use Rattle.whole.specs.Search.{pick, within}
 use Rattle.layout.specs.declared.Row.{Row}
-use Rattle.refusals.specs.declared.Answer.{Answer}
-use Rattle.refusals.specs.declared.Answer.TheVariants.{Accepted, Refused}
-use Rattle.refusals.specs.Checks.{or_later, answer, lengths}
+use Rattle.std.specs.Prelude.{Ok, Err}
+use Rattle.refusals.specs.Checks.{accepted, or_later, answer, lengths}
 use Rattle.accept_ranges.specs.Ranges.{row_in_range}
 use Rattle.whole.proofs.Search.{Passes}
 use Rattle.whole.proofs.Tests.{both_hold}
 use Rattle.refusals.proofs.Answers.{accepted_passes}
 use Rattle.calibrate_fit.specs.declared.Settings.{Settings}
-use Rattle.calibrate_fit.specs.declared.Sample.{Sample}
-use Rattle.calibrate_fit.specs.declared.Sample.TheVariants.{Good, Unusable}
 use Rattle.calibrate_fit.specs.declared.Cause.TheVariants.{FlowNotFinite, FlowOutOfRange, OccupancyNotFinite, OccupancyOutOfRange}
 use Rattle.calibrate_rows.specs.declared.Diagram.{Diagram}
 use Rattle.calibrate_rows.specs.declared.RowValues.{RowValues}
 use Rattle.calibrate_rows.specs.declared.RowNumbers.{RowNumbers}
-use Rattle.calibrate_fit.specs.declared.FitAnswer.TheVariants.{Fitted}
-use Rattle.calibrate_rows.specs.declared.RowAnswer.TheVariants.{Made}
-use Rattle.calibrate_fit.specs.declared.Calibration.TheVariants.{Calibrated}
+use Rattle.calibrate_fit.specs.declared.Calibrated.{Calibrated}
 use Rattle.calibrate_rows.specs.Doubles.{◌⊗◌, ◌⊘◌, double, finite, between, is_zero, unsigned}
-use Rattle.calibrate_fit.specs.Samples.{vehicle_fits, lanes_fit, flow_in_range, occupancy_in_range, density, sample_of, sample_at, samples}
+use Rattle.calibrate_fit.specs.Samples.{Reading, vehicle_fits, lanes_fit, flow_in_range, occupancy_in_range, density, good_sample, sample_of, sample_at, samples}
 use Rattle.calibrate_fit.specs.Diagrams.{free_of, can_be_fitted}
 use Rattle.calibrate_rows.specs.RowNumbers.{speed_share, row_values, row_numbers, rounded_down, value_fits}
-use Rattle.calibrate_fit.specs.Calibration.{lengths_fit, settings_fit, samples_usable, diagram_fits, fit_checks, calibration_checks, fitted_diagram, fitted_values, calibrated_as, fit_of, calibration_of}
+use Rattle.calibrate_fit.specs.Calibration.{lengths_fit, settings_fit, samples_usable, diagram_fits, fit_checks, calibration_checks, fitted_diagram, fitted_values, fit_of, calibration_of}
 use Rattle.calibrate_rows.specs.Rows.{cell_fits, cell_settings_fit, setting_usable, values_fit, making_checks, row_made}
 use Rattle.calibrate_rows.proofs.Rounding.{denominator_pos, double_positive, InLimits, in_limits, rounded_most}
-use Rattle.calibrate_rows.proofs.Answers.{made_by}
-use Rattle.calibrate_fit.proofs.Answers.{lengths_fit_lem, fitted_by, settings_in_range, cell_in_range}
+use Rattle.calibrate_rows.proofs.Answers.{asked_by}
+use Rattle.calibrate_fit.proofs.Answers.{lengths_fit_lem, settings_in_range, cell_in_range}
 use Rattle.calibrate_fit.proofs.Passes.{samples_length}
 use Rattle.calibrate_laws.proofs.Signs.{UpTo, NotNegative, AtLeastOneOver, up_to_more, not_negative, le_value, double_up_to, mul_up_to, div_up_to, mul_sign, div_sign, above_sign}
 use Rattle.calibrate_laws.proofs.NoNan.{Of, Each, each_built, each_drop, each_take, Usual, Sound, sound}
@@ -98,7 +93,7 @@ of_sample : (fact : Float → Float → Type 0) (g : Float) (lanes : ℕ) (flow 
 unfolding sample_of
 of_sample fact g lanes flow occupancy holds = by (finite flow) (flow_in_range flow) refl (finite occupancy) (occupancy_in_range occupancy) refl
   where
-    by : (a b : Bool) → flow_in_range flow ≡ b → (c d : Bool) → occupancy_in_range occupancy ≡ d → Of fact (pick a (pick b (pick c (pick d (Good (unsigned flow) (density g lanes (unsigned occupancy))) (Unusable OccupancyOutOfRange)) (Unusable OccupancyNotFinite)) (Unusable FlowOutOfRange)) (Unusable FlowNotFinite))
+    by : (a b : Bool) → flow_in_range flow ≡ b → (c d : Bool) → occupancy_in_range occupancy ≡ d → Of fact (pick a (pick b (pick c (pick d (Ok (good_sample g lanes flow occupancy)) (Err OccupancyOutOfRange)) (Err OccupancyNotFinite)) (Err FlowOutOfRange)) (Err FlowNotFinite))
     by false b in-flow c d in-occupancy = tt
     by true false in-flow c d in-occupancy = tt
     by true true in-flow false d in-occupancy = tt
@@ -178,25 +173,20 @@ module _ (period : ℕ) (cell : Float) (fit : cell_settings_fit period cell ≡ 
 
 -- ---- the answers
 
--- what an answer of the calibration tells
-calibrated_by : (a : Answer) (diagram : Diagram) (values : RowValues) {found : Diagram} {numbers : RowNumbers} → Calibrated found numbers ≡ calibrated_as a diagram values → (Accepted ≡ a) × (numbers ≡ row_numbers values)
-calibrated_by Accepted diagram values e = (refl, cc)
-calibrated_by (Refused r) diagram values e = (cc, cc)
-
-stretch-length : (start end : ℕ) (all : List Sample) → length (take (end - start) (drop start all)) ≤ length all
+stretch-length : (start end : ℕ) (all : List Reading) → length (take (end - start) (drop start all)) ≤ length all
 stretch-length start end all = simp (length-take, length-drop) (omega arith)
 
-module _ (settings : Settings) (flow occupancy : List Float) {diagram : Diagram} (e : Fitted diagram ≡ fit_of settings flow occupancy) where
-  abbrev all : List Sample
+module _ (settings : Settings) (flow occupancy : List Float) {diagram : Diagram} (e : Ok diagram ≡ fit_of settings flow occupancy) where
+  abbrev all : List Reading
   all = samples settings flow occupancy
 
-  is : (Accepted ≡ answer (fit_checks settings flow occupancy)) × (diagram ≡ fitted_diagram settings flow occupancy)
-  is = fitted_by (answer (fit_checks settings flow occupancy)) (fitted_diagram settings flow occupancy) e
+  is : (accepted ≡ answer (fit_checks settings flow occupancy)) × (diagram ≡ fitted_diagram settings flow occupancy)
+  is = asked_by (answer (fit_checks settings flow occupancy)) (fitted_diagram settings flow occupancy) e
 
-  after_none : (Passes 1 (λ _. lengths_fit settings flow occupancy)) × (or_later (samples_usable settings flow occupancy) (or_later (diagram_fits settings flow occupancy) Accepted) ≡ Accepted)
+  after_none : (Passes 1 (λ _. lengths_fit settings flow occupancy)) × (or_later (samples_usable settings flow occupancy) (or_later (diagram_fits settings flow occupancy) accepted) ≡ accepted)
   after_none = accepted_passes (lengths (lengths_fit settings flow occupancy)) _ (sym is.0)
 
-  after_1 : or_later (diagram_fits settings flow occupancy) Accepted ≡ Accepted
+  after_1 : or_later (diagram_fits settings flow occupancy) accepted ≡ accepted
   after_1 = (accepted_passes (samples_usable settings flow occupancy) _ after_none.1).1
 
   settings_fit_lem : settings_fit settings ≡ true
@@ -266,17 +256,17 @@ numbers_in_range values fit =
     rw
     (number_within 65_536 values.v (lit≤ tt) (lit< tt) (fit 0 (lit< tt)), number_within 65_536 values.w (lit≤ tt) (lit< tt) (fit 1 (lit< tt)), number_within 1_000_000 values.capacity (lit≤ tt) (lit< tt) (fit 2 (lit< tt)), number_within 4_000_000 values.jam (lit≤ tt) (lit< tt) (fit 3 (lit< tt)), capacity_within values.capacity (fit 2 (lit< tt)))
 
-pub made_in_range : (diagram : Diagram) (period : ℕ) (cell : Float) {numbers : RowNumbers} → Made numbers ≡ row_made diagram period cell → row_in_range (without_ramps numbers) ≡ true
+pub made_in_range : (diagram : Diagram) (period : ℕ) (cell : Float) {numbers : RowNumbers} → Ok numbers ≡ row_made diagram period cell → row_in_range (without_ramps numbers) ≡ true
 made_in_range diagram period cell e =
     let values = row_values diagram period cell in
-    let made = made_by (answer (making_checks diagram period cell)) values e in
+    let made = asked_by (answer (making_checks diagram period cell)) (row_numbers values) e in
     let after = accepted_passes (setting_usable period cell) _ (sym made.0) in
     rw made.1 (numbers_in_range values (accepted_passes (values_fit values) _ after.1).0)
 
-pub calibrated_in_range : (settings : Settings) (flow occupancy : List Float) {diagram : Diagram} {numbers : RowNumbers} → Calibrated diagram numbers ≡ calibration_of settings flow occupancy → row_in_range (without_ramps numbers) ≡ true
+pub calibrated_in_range : (settings : Settings) (flow occupancy : List Float) {calibrated : Calibrated} → Ok calibrated ≡ calibration_of settings flow occupancy → row_in_range (without_ramps calibrated.row) ≡ true
 calibrated_in_range settings flow occupancy e =
     let values = fitted_values settings flow occupancy in
-    let made = calibrated_by (answer (calibration_checks settings flow occupancy)) (fitted_diagram settings flow occupancy) values e in
+    let made = asked_by (answer (calibration_checks settings flow occupancy)) (record { diagram = fitted_diagram settings flow occupancy; row = row_numbers values }) e in
     let after_1 = accepted_passes (lengths (lengths_fit settings flow occupancy)) _ (sym made.0) in
     let after-9 = accepted_passes (samples_usable settings flow occupancy) _ after_1.1 in
     let after-10 = accepted_passes (diagram_fits settings flow occupancy) _ after-9.1 in

@@ -3,11 +3,11 @@
 use mathlib.Core.Path.{◌≡◌, refl}
 use mathlib.Core.List.{List, [], ◌∷◌}
 use lib.Ieee.{Float, of_int, add, sub, mul, div, lt, le, eq}
+use Rattle.std.specs.Prelude.{Ok}
 use Rattle.refusals.specs.Checks.{or_later}
 use Rattle.calibrate_fit.specs.declared.Settings.{Settings}
 use Rattle.calibrate_rows.specs.declared.Diagram.{Diagram}
 use Rattle.calibrate_rows.specs.declared.RowNumbers.{RowNumbers}
-use Rattle.calibrate_fit.specs.declared.Calibration.TheVariants.{Calibrated}
 use Rattle.calibrate_rows.specs.Doubles.{◌⊘◌, double}
 use Rattle.calibrate_fit.specs.Samples.{sample_of, samples}
 use Rattle.calibrate_fit.specs.Diagrams.{diagram_of, can_be_fitted}
@@ -29,6 +29,6 @@ diagram = record { speed = double 60; capacity = double 1_920; critical = double
 abbrev numbers : RowNumbers
 numbers = record { v = 21_845; w = 5_461; capacity = 5_333; jam = 80_000 }
 
-pub worked_case : calibration_of settings flow occupancy ≡ Calibrated diagram numbers
+pub worked_case : calibration_of settings flow occupancy ≡ Ok (record { diagram = diagram; row = numbers })
 unfolding of_int add sub mul div lt le eq or_later sample_of samples diagram_of can_be_fitted row_numbers
 worked_case = refl

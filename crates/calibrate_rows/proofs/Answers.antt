@@ -1,16 +1,15 @@
--- What a test in the code tells of the test in the definitions, and what the answers of the row maker tell. Assumes nothing.
-use Rattle.std.proofs.Common.{◌≡◌, ℕ, ◌≤◌, Bool, true, false, not, sym, refl, ◌∙◌, lit<}
+-- What a test in the code tells of the test in the definitions, and what an answer tells. Assumes nothing.
+use Rattle.std.proofs.Common.{◌≡◌, ℕ, ◌+◌, Bool, true, false, not, sym, refl, ◌∙◌, lit<}
+use Rattle.std.specs.Prelude.{Ok, Err, [], ◌∷◌, slice_index_or}
 use borrow.Author.Tests.{not-true, not-false}
-use Rattle.whole.proofs.Search.{all_pass}
+use Rattle.whole.specs.Search.{pick}
+use Rattle.refusals.proofs.Answers.{accepted_passes}
 use Rattle.refusals.specs.declared.Refusal.{Refusal}
-use Rattle.refusals.specs.declared.Answer.{Answer}
-use Rattle.refusals.specs.declared.Answer.TheVariants.{Accepted, Refused}
-use Rattle.refusals.specs.Checks.{least, or_later}
+use Rattle.refusals.specs.declared.Refusal.TheVariants.{RowValue}
+use Rattle.refusals.specs.Checks.{Answer, Check, accepted, answer, or_later}
 use Rattle.calibrate_rows.specs.declared.RowValues.{RowValues}
-use Rattle.calibrate_rows.specs.declared.RowNumbers.{RowNumbers}
-use Rattle.calibrate_rows.specs.declared.RowAnswer.TheVariants.{Made, NotMade}
-use Rattle.calibrate_rows.specs.RowNumbers.{row_numbers}
-use Rattle.calibrate_rows.specs.Rows.{values_fit, row_as}
+use Rattle.calibrate_rows.specs.RowNumbers.{value_fits}
+use Rattle.calibrate_rows.specs.Rows.{values_fit, refused_or}
 use Rattle.calibrate_rows.specs.Private.{EachFits}
 
 -- r is what the code found of a test, and `if !r` went one way or the other
@@ -21,7 +20,7 @@ pub holds : {r test : Bool} → r ≡ test → not r ≡ false → test ≡ true
 holds e h = sym e ∙ not-false _ h
 
 -- a check of one place
-pub test_fails : (refusal : ℕ → Refusal) (later : Answer) {fit : Bool} → fit ≡ false → Refused (refusal 0) ≡ or_later (record { places = 1; test = λ _. fit; refusal = refusal }) later
+pub test_fails : (refusal : ℕ → Refusal) (later : Answer) {fit : Bool} → fit ≡ false → Err (refusal 0) ≡ or_later (record { places = 1; test = λ _. fit; refusal = refusal }) later
 unfolding or_later
 test_fails refusal later e = rw e
 
@@ -29,17 +28,41 @@ pub test_passes : (refusal : ℕ → Refusal) (later : Answer) {fit : Bool} → 
 unfolding or_later
 test_passes refusal later e = rw e
 
+-- one more test before what is asked later: it refuses, or leaves the answer to what is asked later
+pub refuses : (fit : Bool) (at : Refusal) {refusal : Refusal} (later : Answer) → Err refusal ≡ pick fit accepted (Err at) → Err refusal ≡ pick fit later (Err at)
+refuses true at later e = cc
+refuses false at later e = e
+
+pub goes_on : (fit : Bool) (at : Refusal) {done : Unit {0}} {a later : Answer} → Ok done ≡ pick fit accepted (Err at) → a ≡ later → a ≡ pick fit later (Err at)
+goes_on true at e next = next
+goes_on false at e next = cc
+
+-- number 11 asks one value after the other
+abbrev of_four : Bool → Bool → Bool → Bool → Check
+of_four v w capacity jam = record { places = 4; test = λ k. slice_index_or (v ∷ w ∷ capacity ∷ jam ∷ []) k true; refusal = λ k. RowValue (k + 1) }
+
+pub in_turn : (values : RowValues) → pick (value_fits 65_536 values.v) (pick (value_fits 65_536 values.w) (pick (value_fits 1_000_000 values.capacity) (pick (value_fits 4_000_000 values.jam) accepted (Err (RowValue 4))) (Err (RowValue 3))) (Err (RowValue 2))) (Err (RowValue 1)) ≡ answer (values_fit values ∷ [])
+unfolding or_later
+in_turn values = by (value_fits 65_536 values.v) (value_fits 65_536 values.w) (value_fits 1_000_000 values.capacity) (value_fits 4_000_000 values.jam)
+  where
+    by : (v w capacity jam : Bool) → pick v (pick w (pick capacity (pick jam accepted (Err (RowValue 4))) (Err (RowValue 3))) (Err (RowValue 2))) (Err (RowValue 1)) ≡ answer (of_four v w capacity jam ∷ [])
+    by false w capacity jam = refl
+    by true false capacity jam = refl
+    by true true false jam = refl
+    by true true true false = refl
+    by true true true true = refl
+
 -- the four values fit where the check of number 11 finds nothing
-pub values_fit_lem : (values : RowValues) {at : ℕ} → at ≡ least (values_fit values) → 4 ≤ at → EachFits values
-values_fit_lem values e h =
-    let fit = all_pass 4 (values_fit values).test e h in
+pub values_fit_lem : (values : RowValues) → answer (values_fit values ∷ []) ≡ accepted → EachFits values
+values_fit_lem values e =
+    let fit = (accepted_passes (values_fit values) accepted e).0 in
     record { v = fit 0 (lit< tt); w = fit 1 (lit< tt); capacity = fit 2 (lit< tt); jam = fit 3 (lit< tt) }
 
--- what an answer of the row maker tells
-pub not_made_by : (a : Answer) (values : RowValues) {refusal : Refusal} → NotMade refusal ≡ row_as a values → Refused refusal ≡ a
-not_made_by Accepted values e = cc
-not_made_by (Refused r) values e = cc
+-- what an answer tells that has something to say
+pub refused_by : {A : Type 0} (a : Answer) (asked : A) {refusal : Refusal} → Err refusal ≡ refused_or a asked → Err refusal ≡ a
+refused_by (Ok done) asked e = cc
+refused_by (Err r) asked e = cc
 
-pub made_by : (a : Answer) (values : RowValues) {numbers : RowNumbers} → Made numbers ≡ row_as a values → (Accepted ≡ a) × (numbers ≡ row_numbers values)
-made_by Accepted values e = (refl, cc)
-made_by (Refused r) values e = (cc, cc)
+pub asked_by : {A : Type 0} (a : Answer) (asked : A) {given : A} → Ok given ≡ refused_or a asked → (accepted ≡ a) × (given ≡ asked)
+asked_by (Ok done) asked e = (refl, cc)
+asked_by (Err r) asked e = (cc, cc)

@@ -1,18 +1,15 @@
 -- Rounding down: what the limits of a row value say over whole numbers, which doubles have a largest whole number not above
--- them, and that the shifted mantissa is it. Assumes nothing.
-use Rattle.std.proofs.Common.{◌≡◌, ℕ, ◌+◌, ◌-◌, ◌*◌, ◌/◌, ◌^◌, ◌<◌, ◌≤◌, min, Bool, true, false, not, ◌||◌, T, eqb, ltb, ◌⊎◌, ℤ, sym, refl, ◌∙◌, subst, inl, inr, le_trans, le_of_eq, lt_of_lt_of_le, mul-le-mul_right, mod-eq_of_lt, mul_comm, div-lt_iff_lt-mul, mul-lt-mul_of_pos_right, le-div_iff_mul-le, mul_right_comm, arith, lit<, lit≤, lt→ltb, pow_pos, ltb-true, eq-eqb, eqb-true}
+-- them, and that a double's whole part is it. Assumes nothing.
+use Rattle.std.proofs.Common.{◌≡◌, ℕ, ◌+◌, ◌-◌, ◌*◌, ◌/◌, ◌^◌, ◌<◌, ◌≤◌, min, Bool, true, false, ◌||◌, T, eqb, ltb, ◌⊎◌, ℤ, sym, refl, subst, inl, inr, le_trans, mul-le-mul_right, mul_comm, le-div_iff_mul-le, arith, lit<, lit≤, ltb-true, eq-eqb, eqb-true}
 use mathlib.Core.Bool.{false≢true}
 use native.Mathlib.Nat.{div-le_of_le-mul, zero-div}
-use lib.Bits.{bit_and, bit_or, and_mask}
-use lib.Ieee.{Float, nan, inf, fin, binary64, up, down, size, of_int, fits, is_nan, to_bits, to_unsigned, le, lt, eq}
-use lib.Ieee.Digits.{size-le}
-use lib.Ieee.Fits.{kept-lt, down_pos}
+use lib.Ieee.{Float, nan, inf, fin, binary64, up, down, of_int, to_unsigned, le, lt, eq}
+use lib.Ieee.Fits.{down_pos}
 use lib.Ieee.Bits.{is_true}
 use lib.Ieee.Exact.{HasValue}
 use lib.Ieee.Order.{le_of_values}
 use lib.Ieee.Back.{round_whole}
 use lib.Ieee.Positive as positive
-use Rattle.std.proofs.num.Truncating as truncating
 use Rattle.whole.proofs.Tests.{both_hold}
 use Rattle.calibrate_rows.specs.Doubles.{double}
 use Rattle.calibrate_rows.specs.declared.RowValues.{RowValues}
@@ -156,95 +153,21 @@ wider x limit more p le h e =
 pub rounded_most : (x : Float) (limit : ℕ) → InLimits limit x → rounded_down x ≤ limit
 rounded_most x limit inside = div-le_of_le-mul (denominator x) (omega (arith, inside.most, mul_comm limit (denominator x)))
 
--- ---- the bits of a double that is within a limit of 2 ^ 53
-
-field_most : (k q : ℕ) → k ≤ 1074 → q < 9007199254740992 → (0 + k * 4503599627370496 + q) / 4503599627370496 ≤ 1075
-field_most k q h l = omega arith
-
-dropped : (s : ℕ) → s ≤ 1127 → s - 53 ≤ 1074
-dropped s h = omega arith
-
--- a fraction below 2 ^ 53 has at most 1,127 digits in units of 2 ^ -1074
-digits_most : (n d : ℕ) → 0 < d → n ≤ 9007199254740991 * d → n * 2 ^ 1074 / d < 2 ^ 1127
-digits_most n d p h =
-    let below : n < 9007199254740992 * d = omega arith in
-    (div-lt_iff_lt-mul p).1
-    (lt_of_lt_of_le (mul-lt-mul_of_pos_right below (pow_pos 1074)) (le_of_eq (mul_right_comm 9007199254740992 d (2 ^ 1074))))
-
-bits_most : (x : Float) → T (positive.positive x) → numerator x ≤ 9007199254740991 * denominator x → to_bits binary64 x / 4503599627370496 ≤ 1075
-unfolding to_bits
-bits_most nan p h = absurd p
-bits_most (inf negative) p h = absurd p
-bits_most (fin true m e) p h = absurd p
-bits_most (fin false m e) p h =
-    let n = m * up e * 2 ^ 1074 / down e in
-    let k = size n - 53 in
-    field_most k (n / 2 ^ k) (dropped (size n) (size-le n 1127 (digits_most (m * up e) (down e) (down_pos e) h))) (kept-lt 53 n)
-
--- the whole part, as the laws of floats have it
-whole_part : (x : Float) → T (positive.positive x) → numerator x / denominator x < 2 ^ 64 → to_unsigned 64 x ≡ rounded_down x
+-- the whole part of a double within the largest limit, as a cast that stops at the ends of its range gives it
+pub whole_part : (x : Float) → value_fits 4_000_000 x ≡ true → LargestNotAbove x (to_unsigned 32 x)
 unfolding to_unsigned
-whole_part nan p h = absurd p
-whole_part (inf negative) p h = absurd p
-whole_part (fin true m e) p h = absurd p
-whole_part (fin false m e) p h = uncapped (m * up e / down e) h
+whole_part x fit =
+    let inside = in_limits 4_000_000 (lit≤ tt) (lit< tt) x fit in
+    rw (cut x inside.above_zero (omega (arith, rounded_most x 4_000_000 inside))) (rounded x (not_negative x inside.above_zero))
   where
-    uncapped : (a : ℕ) → a < 2 ^ 64 → min a (2 ^ 64 - 1) ≡ a
+    uncapped : (a : ℕ) → a < 2 ^ 32 → min a (2 ^ 32 - 1) ≡ a
     uncapped a h = omega arith
 
-below_64 : (x : Float) → T (positive.positive x) → numerator x ≤ 9007199254740991 * denominator x → T (lt x (truncating.two_to 64))
-unfolding lt
-below_64 nan p h = absurd p
-below_64 (inf negative) p h = absurd p
-below_64 (fin true m e) p h = absurd p
-below_64 (fin false m e) p h = lt→ltb (m * up e * 1) (1 * 2 ^ 64 * down e) (small (m * up e) (down e) (down_pos e) h)
-  where
-    small : (n d : ℕ) → 0 < d → n ≤ 9007199254740991 * d → n * 1 < 18446744073709551616 * d
-    small n d p h = omega arith
-
--- ---- what the code of rounding down is asked, of a double that is held and within the largest limit
-module _ (x : Float) (held : fits binary64 x ≡ true) (fit : value_fits 4_000_000 x ≡ true) where
-  abbrev bits : ℕ
-  bits = to_bits binary64 x
-
-  abbrev field : ℕ
-  field = bits / 4503599627370496
-
-  inside : InLimits 4_000_000 x
-  inside = in_limits 4_000_000 (lit≤ tt) (lit< tt) x fit
-
-  narrow : numerator x ≤ 9007199254740991 * denominator x
-  narrow = omega (arith, inside.most)
-
-  at_least_one : T (le truncating.one x)
-  unfolding of_int
-  at_least_one = yes (both_hold (le (double 1) x) (le x (double 4_000_000)) fit).0
-
-  under : T (lt x (truncating.two_to 64))
-  under = below_64 x inside.above_zero narrow
-
-  pub no_nan : T (not (is_nan x))
-  no_nan = truncating.is_no_nan x (yes held) at_least_one under
-
-  field_is : bit_and field 2047 ≡ field
-  field_is = and_mask field 11 ∙ mod-eq_of_lt (omega (arith, bits_most x inside.above_zero narrow))
-
-  pub exponent_most : bit_and field 2047 ≤ 1075
-  exponent_most = rw field_is (bits_most x inside.above_zero narrow)
-
-  pub shift_fits : 1075 - bit_and field 2047 < 64
-  shift_fits = rw field_is (truncating.down_by x (yes held) at_least_one under)
-
-  pub shifted_is : bit_or (bit_and bits 4503599627370495) 4503599627370496 / 2 ^ (1075 - bit_and field 2047) ≡ rounded_down x
-  shifted_is =
-      rw field_is (truncating.cut_down x (yes held) at_least_one under (bits_most x inside.above_zero narrow))
-      ∙ whole_part x inside.above_zero (omega (arith, rounded_most x 4_000_000 inside))
-
-  pub shifted_most : bit_or (bit_and bits 4503599627370495) 4503599627370496 / 2 ^ (1075 - bit_and field 2047) ≤ 4_000_000
-  shifted_most = rw shifted_is (rounded_most x 4_000_000 inside)
-
-  pub shifted_rounds : LargestNotAbove x (bit_or (bit_and bits 4503599627370495) 4503599627370496 / 2 ^ (1075 - bit_and field 2047))
-  shifted_rounds = rw shifted_is (rounded x (not_negative x inside.above_zero))
+    cut : (x : Float) → T (positive.positive x) → rounded_down x < 2 ^ 32 → to_unsigned 32 x ≡ rounded_down x
+    cut nan p h = absurd p
+    cut (inf negative) p h = absurd p
+    cut (fin true m e) p h = absurd p
+    cut (fin false m e) p h = uncapped (m * up e / down e) h
 
 -- four numbers that are the largest not above four values
 pub numbers_are : (values : RowValues) (v w capacity jam : ℕ) → LargestNotAbove values.v v → LargestNotAbove values.w w → LargestNotAbove values.capacity capacity → LargestNotAbove values.jam jam → ◌≡◌ {A = RowNumbers} (record { v = v; w = w; capacity = capacity; jam = jam }) (row_numbers values)

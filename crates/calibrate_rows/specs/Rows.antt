@@ -1,14 +1,12 @@
 -- Rules, "Refusal numbers" 9 and 11: what is asked of a row, and what is answered.
-use Rattle.std.specs.Prelude.{ℕ, ◌+◌, Bool, true, ◌&&◌, List, [], ◌∷◌, slice_index_or, Float}
+use Rattle.std.specs.Prelude.{ℕ, ◌+◌, Bool, true, ◌&&◌, List, [], ◌∷◌, slice_index_or, Float, Result, Ok, Err}
 use Rattle.whole.specs.Search.{within}
 use Rattle.refusals.specs.declared.Refusal.TheVariants.{Sample, RowValue}
-use Rattle.refusals.specs.declared.Answer.{Answer}
-use Rattle.refusals.specs.declared.Answer.TheVariants.{Accepted, Refused}
-use Rattle.refusals.specs.Checks.{Check, answer}
+use Rattle.refusals.specs.declared.Refusal.{Refusal}
+use Rattle.refusals.specs.Checks.{Answer, Check, answer}
 use Rattle.calibrate_rows.specs.declared.Diagram.{Diagram}
 use Rattle.calibrate_rows.specs.declared.RowValues.{RowValues}
-use Rattle.calibrate_rows.specs.declared.RowAnswer.{RowAnswer}
-use Rattle.calibrate_rows.specs.declared.RowAnswer.TheVariants.{Made, NotMade}
+use Rattle.calibrate_rows.specs.declared.RowNumbers.{RowNumbers}
 use Rattle.calibrate_rows.specs.Doubles.{◌⊘◌, double, between}
 use Rattle.calibrate_rows.specs.RowNumbers.{row_values, row_numbers, value_fits}
 
@@ -45,10 +43,13 @@ values_fit values =
 abbrev pub making_checks : Diagram → ℕ → Float → List Check
 making_checks diagram period cell = setting_usable period cell ∷ values_fit (row_values diagram period cell) ∷ []
 
--- the refusal, or the row where there is none
-abbrev pub row_as : Answer → RowValues → RowAnswer
-row_as Accepted values = Made (row_numbers values)
-row_as (Refused refusal) values = NotMade refusal
+-- the refusal, or what was asked for where there is none
+abbrev pub refused_or : {A : Type 0} → Answer → A → Result A Refusal
+refused_or (Ok done) asked = Ok asked
+refused_or (Err refusal) asked = Err refusal
 
-abbrev pub row_made : Diagram → ℕ → Float → RowAnswer
+abbrev pub row_as : Answer → RowValues → Result RowNumbers Refusal
+row_as a values = refused_or a (row_numbers values)
+
+abbrev pub row_made : Diagram → ℕ → Float → Result RowNumbers Refusal
 row_made diagram period cell = row_as (answer (making_checks diagram period cell)) (row_values diagram period cell)

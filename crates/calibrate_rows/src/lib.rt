@@ -2,8 +2,10 @@
 // product and quotient is rounded once, in the rules' order, and then each value is rounded down.
 #![tactic(auto)]
 
-ghost use Rattle.std.specs.Prelude.{◌≡◌, [], ◌∷◌};
-ghost use Rattle.refusals.specs.Checks.{least, answer};
+ghost use Rattle.std.specs.Prelude.{◌≡◌, [], ◌∷◌, Err};
+ghost use Rattle.whole.specs.Search.{pick};
+ghost use Rattle.refusals.specs.Checks.{answer, accepted};
+ghost use Rattle.refusals.specs.declared.Refusal.TheVariants.{RowValue};
 ghost use Rattle.calibrate_rows.specs.Doubles.{double, between};
 ghost use Rattle.calibrate_rows.specs.Rows.{cell_settings_fit, values_fit, row_as, row_made};
 
@@ -11,7 +13,7 @@ mod row;
 
 use refusals::Refusal;
 
-#[derive(Clone, Copy)]
+#[derive(Clone, Copy, Debug, PartialEq)]
 pub struct Diagram {
     pub speed: f64,
     pub capacity: f64,
@@ -21,7 +23,7 @@ pub struct Diagram {
 }
 
 // v, w, F and J before rounding.
-#[derive(Clone, Copy)]
+#[derive(Clone, Copy, Debug, PartialEq)]
 pub struct RowValues {
     pub v: f64,
     pub w: f64,
@@ -30,7 +32,7 @@ pub struct RowValues {
 }
 
 // v, w, F and J of a cell row.
-#[derive(Clone, Copy)]
+#[derive(Clone, Copy, Debug, PartialEq, Eq)]
 pub struct RowNumbers {
     pub v: u32,
     pub w: u32,
@@ -38,62 +40,54 @@ pub struct RowNumbers {
     pub jam: u32,
 }
 
-#[derive(Clone, Copy)]
-pub enum RowAnswer {
-    Made(RowNumbers),
-    NotMade(Refusal),
+// Whether x is at least low and at most high; a NaN is not.
+pub fn between(low: f64, high: f64, x: f64) -> bool
+    ensures { result ≡ between low high x }
+{
+    (low <= x) & (x <= high)
 }
 
 // Whether T and L are in their ranges. A calibration asks the same of its settings.
 pub fn cell_settings_fit(period: u32, cell: f64) -> bool
     ensures { result ≡ cell_settings_fit period cell }
 {
-    whole::within(1, 60, period) & ((1.0 / 64.0 <= cell) & (cell <= 8.0))
+    whole::within(1, 60, period) & between(1.0 / 64.0, 8.0, cell)
 }
 
-// Whether a row value is at least 1 and at most its limit; a NaN is not.
-fn value_fits(limit: f64, value: f64) -> bool
-    ensures { result ≡ between (double 1) limit value }
+// Number 11 for one row value: it is at least 1 and at most its limit.
+fn value_fits(place: usize, limit: f64, value: f64) -> Result<(), Refusal>
+    ensures { result ≡ pick (between (double 1) limit value) accepted (Err (RowValue place)) }
 {
-    (1.0 <= value) & (value <= limit)
+    if !between(1.0, limit, value) {
+        return Err(Refusal::RowValue(place));
+    }
+    Ok(())
 }
 
-// The first of v, w, F and J, in this order and counted from 0, that is not from 1 to its limit, or 4 where each is.
-fn values_fit(values: RowValues) -> usize
-    ensures { result ≡ least (values_fit values) }
+// Number 11, of v, w, F and J in this order.
+fn values_fit(values: RowValues) -> Result<(), Refusal>
+    ensures { result ≡ answer (values_fit values ∷ []) }
 {
-    if !value_fits(65_536.0, values.v) {
-        return 0;
-    }
-    if !value_fits(65_536.0, values.w) {
-        return 1;
-    }
-    if !value_fits(1_000_000.0, values.capacity) {
-        return 2;
-    }
-    if !value_fits(4_000_000.0, values.jam) {
-        return 3;
-    }
-    4
+    value_fits(1, 65_536.0, values.v)?;
+    value_fits(2, 65_536.0, values.w)?;
+    value_fits(3, 1_000_000.0, values.capacity)?;
+    value_fits(4, 4_000_000.0, values.jam)
 }
 
 // Number 11, and the row numbers where it does not apply.
-fn round_values(values: RowValues) -> RowAnswer
+fn round_values(values: RowValues) -> Result<RowNumbers, Refusal>
     ensures { result ≡ row_as (answer (values_fit values ∷ [])) values }
 {
-    let at = values_fit(values);
-    if at < 4 {
-        return RowAnswer::NotMade(Refusal::RowValue(at + 1));
-    }
-    RowAnswer::Made(row::row_numbers(values))
+    values_fit(values)?;
+    Ok(row::row_numbers(values))
 }
 
 // Makes v, w, F and J of a diagram for the period T and the cell length L, or refuses with number 9 or 11.
-pub fn make_row(diagram: Diagram, period: u32, cell: f64) -> RowAnswer
+pub fn make_row(diagram: Diagram, period: u32, cell: f64) -> Result<RowNumbers, Refusal>
     ensures { result ≡ row_made diagram period cell }
 {
     if !cell_settings_fit(period, cell) {
-        return RowAnswer::NotMade(Refusal::Sample(0));
+        return Err(Refusal::Sample(0));
     }
     round_values(row::row_values(diagram, period, cell))
 }

@@ -1,9 +1,10 @@
-// The row values v, w, F and J of a diagram, and each rounded down from the bits of its double.
+// The row values v, w, F and J of a diagram, and each rounded down.
 ghost use Rattle.std.specs.Prelude.{◌≡◌, true};
 ghost use Rattle.calibrate_rows.specs.RowNumbers.{speed_share, row_values, row_numbers, value_fits};
 ghost use Rattle.calibrate_rows.specs.Private.{LargestNotAbove, EachFits};
 
 use crate::{Diagram, RowNumbers, RowValues};
+use std::num;
 
 // A speed in miles per hour as the share of a cell that is passed in a period, over ONE.
 fn speed_share(speed: f64, period: u32, cell: f64) -> f64
@@ -24,17 +25,12 @@ pub(crate) fn row_values(diagram: Diagram, period: u32, cell: f64) -> RowValues
     }
 }
 
-// The largest whole number not above x, for an x from 1 to 4,000,000: the bits above the 52 of the mantissa are the
-// exponent, since x has no sign, and the mantissa with its leading one, which the format leaves out, is x in units of
-// 2^(exponent - 1075).
+// The largest whole number not above x, for an x from 1 to 4,000,000.
 fn rounded_down(x: f64) -> u32
     requires { value_fits 4_000_000 x ≡ true }
     ensures { LargestNotAbove x result }
 {
-    let bits: u64 = f64::to_bits(x);
-    let exponent = (bits >> 52) & 0x7ff;
-    let mantissa = (bits & 0xf_ffff_ffff_ffff) | 0x10_0000_0000_0000;
-    (mantissa >> (1_075 - exponent)) as u32
+    num::saturating_f64_to_u32(x)
 }
 
 // The row values rounded down.

@@ -3,13 +3,16 @@
 // the samples are subnormal, huge, equal and boundary values, infinities and NaNs.
 #![tactic(auto)]
 
-use calibrate_fit::{Calibration, Settings};
+use calibrate_fit::{Calibrated, Settings, calibrate, fit};
 use calibrate_rows::{Diagram, RowNumbers};
 use refusals::Refusal;
 use std::io;
 
+// The flows or the occupancies that are drawn for a set, of which it takes the first ones.
+type Draws = [f64; 48];
+
 // What is carried from set to set: the next draw, and the digest so far.
-#[derive(Drop)]
+#[derive(Clone, Copy)]
 struct Trials {
     draw: u64,
     digest: u64,
@@ -72,63 +75,70 @@ fn drawn(kind: u64, draw: u64, most: f64) -> f64 {
 }
 
 // Fills a list with drawn values, the first 16 of them up to `early`, and answers the next draw.
-fn fill(list: &mut [f64], kind: u64, draw: u64, early: f64, most: f64) -> u64 {
+fn fill(list: &mut Draws, kind: u64, draw: u64, early: f64, most: f64) -> u64 {
     let mut x = draw;
-    let mut i = 0;
-    while i < list.len() {
+    for (i, value) in list.iter_mut().enumerate() {
         x = stepped(x);
-        list[i] = drawn(kind, x, if i < 16 { early } else { most });
-        i += 1;
+        *value = drawn(kind, x, if i < 16 { early } else { most });
     }
     x
 }
 
 // The bits of a double; one pattern stands for every NaN.
 fn bits(x: f64) -> u64 {
-    if x != x {
-        return 1;
-    }
-    f64::to_bits(x)
+    if x.is_nan() { 1 } else { x.to_bits() }
 }
 
-fn with_word(digest: u64, word: u64) -> u64 {
-    stepped(digest ^ word)
+fn with_words(digest: u64, words: &[u64]) -> u64 {
+    words
+        .iter()
+        .fold(digest, |digest, word| stepped(digest ^ *word))
 }
 
 fn with_diagram(digest: u64, diagram: Diagram) -> u64 {
-    let a = with_word(digest, bits(diagram.speed));
-    let b = with_word(a, bits(diagram.capacity));
-    let c = with_word(b, bits(diagram.critical));
-    let d = with_word(c, bits(diagram.wave));
-    with_word(d, bits(diagram.jam))
+    with_words(
+        digest,
+        &[
+            bits(diagram.speed),
+            bits(diagram.capacity),
+            bits(diagram.critical),
+            bits(diagram.wave),
+            bits(diagram.jam),
+        ],
+    )
 }
 
-fn with_numbers(digest: u64, numbers: RowNumbers) -> u64 {
-    let a = with_word(digest, numbers.v as u64);
-    let b = with_word(a, numbers.w as u64);
-    let c = with_word(b, numbers.capacity as u64);
-    with_word(c, numbers.jam as u64)
+fn with_row(digest: u64, row: RowNumbers) -> u64 {
+    with_words(
+        digest,
+        &[
+            u64::from(row.v),
+            u64::from(row.w),
+            u64::from(row.capacity),
+            u64::from(row.jam),
+        ],
+    )
 }
 
 fn with_refusal(digest: u64, refusal: Refusal) -> u64 {
-    let a = with_word(digest, refusals::number(refusal) as u64);
-    with_word(a, refusals::place(refusal) as u64)
+    with_words(
+        digest,
+        &[u64::from(refusal.number()), refusal.place() as u64],
+    )
 }
 
-fn with_calibration(digest: u64, calibration: Calibration) -> u64 {
-    match calibration {
-        Calibration::Calibrated(diagram, numbers) => {
-            with_numbers(with_diagram(digest, diagram), numbers)
-        }
-        Calibration::NotCalibrated(refusal) => with_refusal(digest, refusal),
+fn with_calibrated(digest: u64, answer: Result<Calibrated, Refusal>) -> u64 {
+    match answer {
+        Ok(calibrated) => with_row(with_diagram(digest, calibrated.diagram), calibrated.row),
+        Err(refusal) => with_refusal(digest, refusal),
     }
 }
 
 // The fit's own answer goes into the digest too, since number 11 would hide its diagram.
-fn with_fit(digest: u64, answer: calibrate_fit::FitAnswer) -> u64 {
+fn with_fitted(digest: u64, answer: Result<Diagram, Refusal>) -> u64 {
     match answer {
-        calibrate_fit::FitAnswer::Fitted(diagram) => with_diagram(digest, diagram),
-        calibrate_fit::FitAnswer::NotFitted(refusal) => with_refusal(digest, refusal),
+        Ok(diagram) => with_diagram(digest, diagram),
+        Err(refusal) => with_refusal(digest, refusal),
     }
 }
 
@@ -151,32 +161,12 @@ fn settings(kind: u64, draw: u64, n: usize) -> Settings {
             0.015625 + unit(b) * 8.0
         },
         start: ((b >> 50) % 3) as usize,
-        end: if (kind != 15) & (n < small) { n } else { small },
+        end: if kind == 15 { small } else { small.min(n) },
     }
-}
-
-// The answers to the first n flows and the first m occupancies.
-fn with_answers(
-    digest: u64,
-    flow: &[f64],
-    occupancy: &[f64],
-    n: usize,
-    m: usize,
-    chosen: Settings,
-) -> u64 {
-    if flow.len() < n {
-        return digest;
-    }
-    if occupancy.len() < m {
-        return digest;
-    }
-    let fitted = calibrate_fit::fit(&flow[..n], &occupancy[..m], chosen);
-    let calibrated = calibrate_fit::calibrate(&flow[..n], &occupancy[..m], chosen);
-    with_calibration(with_fit(digest, fitted), calibrated)
 }
 
 // One set: a kind, the samples, two lengths that differ for one kind, and the settings.
-fn trial(trials: Trials, flow: &mut [f64], occupancy: &mut [f64]) -> Trials {
+fn trial(trials: Trials, flow: &mut Draws, occupancy: &mut Draws) -> Trials {
     let a = stepped(trials.draw);
     let kind = (a >> 32) % 16;
     let b = fill(flow, kind, a, 20_000.0, 20_000.0);
@@ -188,34 +178,31 @@ fn trial(trials: Trials, flow: &mut [f64], occupancy: &mut [f64]) -> Trials {
         n
     };
     let chosen = settings(kind, c, n);
+    let fitted = with_fitted(trials.digest, fit(&flow[..n], &occupancy[..m], chosen));
     Trials {
         draw: stepped(c),
-        digest: with_answers(trials.digest, flow, occupancy, n, m, chosen),
+        digest: with_calibrated(fitted, calibrate(&flow[..n], &occupancy[..m], chosen)),
     }
 }
 
 // As many sets as asked for.
-fn trials_of(count: u64, first: Trials, flow: &mut [f64], occupancy: &mut [f64]) -> Trials {
+fn trials_of(count: u64, first: Trials, flow: &mut Draws, occupancy: &mut Draws) -> Trials {
     let mut trials = first;
-    let mut left = count;
-    while left > 0 {
+    for _ in 0..count {
         trials = trial(trials, flow, occupancy);
-        left -= 1;
     }
     trials
 }
 
-fn run(rt: &impl Print, flow: &mut [f64], occupancy: &mut [f64]) -> io::Result<()> {
+fn run(rt: &impl Print, flow: &mut Draws, occupancy: &mut Draws) -> io::Result<()> {
     let mut trials = Trials {
         draw: 88_172_645_463_325_252,
         digest: 1,
     };
-    let mut block: u32 = 0;
-    while block < 8 {
+    for _ in 0..8 {
         trials = trials_of(2_048, trials, flow, occupancy);
         let digest = trials.digest;
         println!(rt; "{digest}")?;
-        block += 1;
     }
     Ok(())
 }

@@ -1,38 +1,35 @@
 // The rules' worked calibration, and after it a calibration that is refused with each of its numbers.
-use calibrate_fit::{Calibration, Settings};
-use calibrate_rows::{Diagram, RowNumbers};
-use refusals::Answer;
-use std::io;
+use calibrate_fit::{Calibrated, Settings};
+use std::{fmt, io};
 
-// Prints the whole part of a double from 0 to 2^64, which is all of it for those below; else a question mark.
-fn print_whole(rt: &impl Print, x: f64) -> io::Result<()> {
-    if x > -1.0 {
-        if x < 18_446_744_073_709_551_616.0 {
+// A double as its whole part, where it is from 0 to 2^64, which is all of it for those below; else as a question mark.
+#[derive(Drop)]
+struct Whole(f64);
+
+impl fmt::Display for Whole {
+    fn fmt<W: fmt::Write>(&self, f: &mut fmt::Formatter<W>) -> fmt::Result {
+        let x = self.0;
+        if x > -1.0 && x < 18_446_744_073_709_551_616.0 {
             let whole = std::num::truncating_f64_to_u64(x);
-            return print!(rt; "{whole}");
+            return write!(f, "{whole}");
         }
+        write!(f, "?")
     }
-    print!(rt; "?")
 }
 
-fn print_diagram(rt: &impl Print, diagram: Diagram) -> io::Result<()> {
-    print!(rt; "speed ")?;
-    print_whole(rt, diagram.speed)?;
-    print!(rt; ", capacity ")?;
-    print_whole(rt, diagram.capacity)?;
-    print!(rt; ", critical ")?;
-    print_whole(rt, diagram.critical)?;
-    print!(rt; ", wave ")?;
-    print_whole(rt, diagram.wave)?;
-    print!(rt; ", jam ")?;
-    print_whole(rt, diagram.jam)
-}
-
-fn print_numbers(rt: &impl Print, numbers: RowNumbers) -> io::Result<()> {
-    let v = numbers.v;
-    let w = numbers.w;
-    let capacity = numbers.capacity;
-    let jam = numbers.jam;
+fn print_calibrated(rt: &impl Print, found: Calibrated) -> io::Result<()> {
+    let diagram = found.diagram;
+    let speed = Whole(diagram.speed);
+    let capacity = Whole(diagram.capacity);
+    let critical = Whole(diagram.critical);
+    let wave = Whole(diagram.wave);
+    let jam = Whole(diagram.jam);
+    print!(rt; "speed {speed}, capacity {capacity}, critical {critical}, wave {wave}, jam {jam}")?;
+    let row = found.row;
+    let v = row.v;
+    let w = row.w;
+    let capacity = row.capacity;
+    let jam = row.jam;
     print!(rt; ", v {v}, w {w}, F {capacity}, J {jam}, ")
 }
 
@@ -54,14 +51,12 @@ fn one_calibration(
         end,
     };
     rt.write_all(name)?;
-    let calibration = calibrate_fit::calibrate(flow, &[0.0625, 0.125, 0.375], settings);
-    match calibration {
-        Calibration::Calibrated(diagram, numbers) => {
-            print_diagram(rt, diagram)?;
-            print_numbers(rt, numbers)?;
-            show::answer(rt, Answer::Accepted)
+    match calibrate_fit::calibrate(flow, &[0.0625, 0.125, 0.375], settings) {
+        Ok(found) => {
+            print_calibrated(rt, found)?;
+            show::answer(rt, Ok(()))
         }
-        Calibration::NotCalibrated(refusal) => show::answer(rt, Answer::Refused(refusal)),
+        Err(refusal) => show::answer(rt, Err(refusal)),
     }
 }
 

@@ -1,5 +1,5 @@
 -- How a call ends: the word of its answer, and what its lists then hold. Assumes nothing.
-use Rattle.std.specs.Prelude.{Ok, Err}
+use Rattle.std.specs.Prelude.{Result, Ok, Err}
 use Prim.Native.Nat.{ℕ, ◌+◌, ◌*◌, ◌/◌, ◌%◌, ◌<◌}
 use mathlib.Core.Path.{◌≡◌, refl, sym, ap, ◌∙◌}
 use mathlib.Core.Bool.{Bool, true, false, not}
@@ -27,8 +27,7 @@ use Rattle.calibrate_fit.specs.declared.Settings.{Settings}
 use Rattle.calibrate_rows.specs.declared.Diagram.{Diagram}
 use Rattle.calibrate_rows.specs.declared.RowValues.{RowValues}
 use Rattle.calibrate_rows.specs.declared.RowNumbers.{RowNumbers}
-use Rattle.calibrate_fit.specs.declared.Calibration.{Calibration}
-use Rattle.calibrate_fit.specs.declared.Calibration.TheVariants.{Calibrated, NotCalibrated}
+use Rattle.calibrate_fit.specs.declared.Calibrated.{Calibrated}
 use Rattle.calibrate_rows.specs.RowNumbers.{row_numbers}
 use Rattle.calibrate_fit.specs.Calibration.{calibration_checks, fitted_diagram, fitted_values, calibrated_as, calibration_of}
 use Rattle.figwimple.specs.Words.{PLACES, ANSWERS, word_of}
@@ -80,7 +79,7 @@ pub record Tells (word periods : ℕ) (answered : Answer) : Type 0 where
   pub accepted : word / PLACES % 256 ≡ 0 → answered ≡ accepted
 
 pub word_tells : (count : ℕ) (answered : Answer) → Placed answered → Tells (word_of count answered) count answered
-word_tells count accepted placed =
+word_tells count (Ok done) placed =
     record { count = omega arith; number = omega arith; place = omega arith; accepted = λ e. refl }
 word_tells count (Err refusal) placed =
     record {
@@ -119,28 +118,11 @@ change_called done e =
 
 -- Calibrations
 
-pub five_stored : (list : List Float) (d : Diagram) → length list ≡ 5 → set (set (set (set (set list 0 d.speed) 1 d.capacity) 2 d.critical) 3 d.wave) 4 d.jam ≡ five_of d
-five_stored (a ∷ b ∷ c ∷ p ∷ q ∷ []) d e = refl
-five_stored [] d e = absurd (omega (arith, e))
-five_stored (a ∷ []) d e = absurd (omega (arith, e))
-five_stored (a ∷ b ∷ []) d e = absurd (omega (arith, e))
-five_stored (a ∷ b ∷ c ∷ []) d e = absurd (omega (arith, e))
-five_stored (a ∷ b ∷ c ∷ p ∷ []) d e = absurd (omega (arith, e))
-five_stored (a ∷ b ∷ c ∷ p ∷ q ∷ r ∷ rest) d e = absurd (omega (arith, e))
-
-pub four_stored : (list : List ℕ) (n : RowNumbers) → length list ≡ 4 → set (set (set (set list 0 n.v) 1 n.w) 2 n.capacity) 3 n.jam ≡ four_of n
-four_stored (a ∷ b ∷ c ∷ p ∷ []) n e = refl
-four_stored [] n e = absurd (omega (arith, e))
-four_stored (a ∷ []) n e = absurd (omega (arith, e))
-four_stored (a ∷ b ∷ []) n e = absurd (omega (arith, e))
-four_stored (a ∷ b ∷ c ∷ []) n e = absurd (omega (arith, e))
-four_stored (a ∷ b ∷ c ∷ p ∷ q ∷ rest) n e = absurd (omega (arith, e))
-
-not_calibrated_by : (a : Answer) (diagram : Diagram) (values : RowValues) {refusal : Refusal} → NotCalibrated refusal ≡ calibrated_as a diagram values → Err refusal ≡ a
+not_calibrated_by : (a : Answer) (diagram : Diagram) (values : RowValues) {refusal : Refusal} → Err refusal ≡ calibrated_as a diagram values → Err refusal ≡ a
 not_calibrated_by (Ok done) diagram values e = cc
 not_calibrated_by (Err r) diagram values e = cc
 
-calibrated_by : (a : Answer) (diagram : Diagram) (values : RowValues) {fitted : Diagram} {numbers : RowNumbers} → Calibrated fitted numbers ≡ calibrated_as a diagram values → (accepted ≡ a) × ((fitted ≡ diagram) × (numbers ≡ row_numbers values))
+calibrated_by : (a : Answer) (diagram : Diagram) (values : RowValues) {found : Calibrated} → Ok found ≡ calibrated_as a diagram values → (accepted ≡ a) × ((found.diagram ≡ diagram) × (found.row ≡ row_numbers values))
 calibrated_by (Ok done) diagram values e = (refl, (cc, cc))
 calibrated_by (Err r) diagram values e = (cc, (cc, cc))
 
@@ -160,15 +142,15 @@ module _ (settings : Settings) (flow occupancy diagram : List Float) (row : List
     pub row_length : length row ≡ 4
     row_length = eqb-true _ _ (both_hold (eqb (length diagram) 5) (eqb (length row) 4) fit).1
 
-    module _ {found : Calibration} (is : found ≡ calibration_of settings flow occupancy) where
-      refusal_is : {refusal : Refusal} → found ≡ NotCalibrated refusal → Err refusal ≡ answer (calibration_checks settings flow occupancy)
+    module _ {found : Result Calibrated Refusal} (is : found ≡ calibration_of settings flow occupancy) where
+      refusal_is : {refusal : Refusal} → found ≡ Err refusal → Err refusal ≡ answer (calibration_checks settings flow occupancy)
       refusal_is e =
           not_calibrated_by (answer (calibration_checks settings flow occupancy)) (fitted_diagram settings flow occupancy) (fitted_values settings flow occupancy) (sym e ∙ is)
 
-      pub refusal_placed : {refusal : Refusal} → found ≡ NotCalibrated refusal → Placed (Err refusal)
+      pub refusal_placed : {refusal : Refusal} → found ≡ Err refusal → Placed (Err refusal)
       refusal_placed e = fits_as (refusal_is e) (calibration_placed settings flow occupancy)
 
-      pub calibrate_refused : {refusal : Refusal} {word : ℕ} → found ≡ NotCalibrated refusal → word ≡ word_of 0 (Err refusal) → CalibrateCalled settings flow occupancy diagram row word diagram row
+      pub calibrate_refused : {refusal : Refusal} {word : ℕ} → found ≡ Err refusal → word ≡ word_of 0 (Err refusal) → CalibrateCalled settings flow occupancy diagram row word diagram row
       calibrate_refused e w =
           record {
             answered = rw (fit, ← refusal_is e) w;
@@ -176,7 +158,7 @@ module _ (settings : Settings) (flow occupancy diagram : List Float) (row : List
             leaves_row = rw (fit, ← refusal_is e);
           }
 
-      pub calibrate_done : {fitted : Diagram} {numbers : RowNumbers} {diagram_left : List Float} {row_left : List ℕ} → found ≡ Calibrated fitted numbers → diagram_left ≡ five_of fitted → row_left ≡ four_of numbers → CalibrateCalled settings flow occupancy diagram row 0 diagram_left row_left
+      pub calibrate_done : {made : Calibrated} {diagram_left : List Float} {row_left : List ℕ} → found ≡ Ok made → diagram_left ≡ five_of made.diagram → row_left ≡ four_of made.row → CalibrateCalled settings flow occupancy diagram row 0 diagram_left row_left
       calibrate_done e five four =
           let told = calibrated_by (answer (calibration_checks settings flow occupancy)) (fitted_diagram settings flow occupancy) (fitted_values settings flow occupancy) (sym e ∙ is) in
           record {

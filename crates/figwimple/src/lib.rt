@@ -12,22 +12,22 @@ ghost use Rattle.figwimple.specs.Words.{word_of};
 ghost use Rattle.figwimple.specs.Private.{COUNTS, Placed};
 ghost use Rattle.figwimple.specs.Calls.{PeriodCalled, RunCalled, RecutCalled, JoinCalled, settings_of, five_of, four_of, results_fit, CalibrateCalled};
 
-use calibrate_fit::{Calibration, Settings};
+use calibrate_fit::Settings;
 use calibrate_rows::{Diagram, RowNumbers};
-use refusals::{Answer, Refusal};
+use refusals::Refusal;
 
 // The word of a count below 2^24 and of an answer whose place is below 2^32.
-fn word(count: usize, answered: Answer) -> u64
+fn word(count: usize, answered: Result<(), Refusal>) -> u64
     requires count_bound { count < COUNTS }
     requires placed { Placed answered }
     ensures { result ≡ word_of count answered }
 {
     let counted = count as u64 * 1_099_511_627_776;
     match answered {
-        Answer::Accepted => counted,
-        Answer::Refused(refusal) => {
-            let number = refusals::number(refusal) as u64;
-            let place = refusals::place(refusal) as u64;
+        Ok(()) => counted,
+        Err(refusal) => {
+            let number = refusal.number() as u64;
+            let place = refusal.place() as u64;
             counted + number * 4_294_967_296 + place
         }
     }
@@ -66,8 +66,7 @@ pub fn figwimple_run(table: &[u32], state: &mut [u32], demand: &[u32], sheet: &m
     ensures { RunCalled asymmetric (corridor_of table.now state.old) demand.now sheet.old result state.new sheet.new }
 {
     let ran = period_run::run(table, state, demand, sheet);
-    let answered = ran.answer;
-    word(ran.periods, answered)
+    word(ran.periods, ran.answer)
 }
 
 // The re-cut of a table and a state into a new table: numbers 1 to 5 and 8. The new state goes to a list of its own.
@@ -101,11 +100,13 @@ fn put_diagram(fitted: Diagram, list: &mut [f64])
     requires { length list.old ≡ 5 }
     ensures { list.new ≡ five_of fitted }
 {
-    list[0] = fitted.speed;
-    list[1] = fitted.capacity;
-    list[2] = fitted.critical;
-    list[3] = fitted.wave;
-    list[4] = fitted.jam;
+    list.copy_from_slice(&[
+        fitted.speed,
+        fitted.capacity,
+        fitted.critical,
+        fitted.wave,
+        fitted.jam,
+    ]);
 }
 
 // Stores the four numbers of a row.
@@ -113,10 +114,7 @@ fn put_row(numbers: RowNumbers, list: &mut [u32])
     requires { length list.old ≡ 4 }
     ensures { list.new ≡ four_of numbers }
 {
-    list[0] = numbers.v;
-    list[1] = numbers.w;
-    list[2] = numbers.capacity;
-    list[3] = numbers.jam;
+    list.copy_from_slice(&[numbers.v, numbers.w, numbers.capacity, numbers.jam]);
 }
 
 // Number 1 of the lists for a calibration's results.
@@ -142,7 +140,7 @@ pub fn figwimple_calibrate(
     ensures { CalibrateCalled (settings_of g lanes t l start end) flow.now occupancy.now diagram.old row.old result diagram.new row.new }
 {
     if !results_fit(diagram, row) {
-        return word(0, Answer::Refused(Refusal::Length));
+        return word(0, Err(Refusal::Length));
     }
     let settings = Settings {
         g,
@@ -152,13 +150,12 @@ pub fn figwimple_calibrate(
         start,
         end,
     };
-    let found = calibrate_fit::calibrate(flow, occupancy, settings);
-    match found {
-        Calibration::NotCalibrated(refusal) => word(0, Answer::Refused(refusal)),
-        Calibration::Calibrated(fitted, numbers) => {
-            put_diagram(fitted, diagram);
-            put_row(numbers, row);
+    match calibrate_fit::calibrate(flow, occupancy, settings) {
+        Ok(found) => {
+            put_diagram(found.diagram, diagram);
+            put_row(found.row, row);
             0
         }
+        Err(refusal) => word(0, Err(refusal)),
     }
 }

@@ -47,7 +47,13 @@ fn add_up(old: &[u32], state: &[u32], groups: &[u32], new: &[u32], list: &mut [u
 
 // The join of a table and a state into a new table, with one group size for each new cell. The new state goes to the list; on a refusal
 // that stays as it came.
-pub fn join(old: &[u32], state: &[u32], groups: &[u32], new: &[u32], list: &mut [u32]) -> Result<(), Refusal>
+pub fn join(
+    old: &[u32],
+    state: &[u32],
+    groups: &[u32],
+    new: &[u32],
+    list: &mut [u32],
+) -> Result<(), Refusal>
     ensures { JoinDone (corridor_of old.now state.now) groups.now new.now list.old result list.new }
 {
     recut_checks::accept(Change::Join, old, state, groups, new, list)?;

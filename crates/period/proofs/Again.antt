@@ -8,8 +8,7 @@ use borrow.Author.Tests.{le-leb}
 use lib.Dec.{eqb}
 use Rattle.whole.specs.Search.{pick}
 use Rattle.whole.proofs.Search.{Passes}
-use Rattle.refusals.specs.declared.Answer.TheVariants.{Accepted}
-use Rattle.refusals.specs.Checks.{answer}
+use Rattle.refusals.specs.Checks.{accepted, answer}
 use Rattle.layout.specs.Layout.{on_demand_at}
 use Rattle.layout.specs.Corridor.{Corridor, cells_of, row_of, entry_queue_of, queue_of, cell_of}
 use Rattle.accept_ranges.specs.Ranges.{queue_limit, demand_limit}
@@ -26,15 +25,15 @@ use Rattle.period.proofs.Nodes.{mode_at_most_one}
 use Rattle.period.proofs.Reading.{after_mode}
 use Rattle.period.proofs.Laws.{entry_balance, queue_balance, count_stays_within}
 
-module _ (way : Sharing) (fair : Fair way) (c : Corridor) (demand : List ℕ) (accepted : answer (state_numbers c) ≡ Accepted) (row : answer (demand_numbers c demand) ≡ Accepted) where
-  table_accepted : answer (table_numbers c.table) ≡ Accepted
-  table_accepted = (accepted_both (table_numbers c.table) (state_in_range c ∷ []) accepted).0
+module _ (way : Sharing) (fair : Fair way) (c : Corridor) (demand : List ℕ) (before : answer (state_numbers c) ≡ accepted) (row : answer (demand_numbers c demand) ≡ accepted) where
+  table_accepted : answer (table_numbers c.table) ≡ accepted
+  table_accepted = (accepted_both (table_numbers c.table) (state_in_range c ∷ []) before).0
 
   pub t : TableFits c.table
   t = table_fits c.table table_accepted
 
   pub s : StateFits c
-  s = state_fits_lem c accepted
+  s = state_fits_lem c before
 
   pub d : RowFits c demand
   d = row_fits c demand row
@@ -58,7 +57,7 @@ module _ (way : Sharing) (fair : Fair way) (c : Corridor) (demand : List ℕ) (a
         mode = omega (arith, after_mode way c demand i below, mode_at_most_one way c demand i);
       })
 
-  pub state_stays_accepted : answer (state_numbers (corridor_after way c demand)) ≡ Accepted
+  pub state_stays_accepted : answer (state_numbers (corridor_after way c demand)) ≡ accepted
   state_stays_accepted =
       both_accepted (table_numbers c.table) (state_in_range after ∷ []) table_accepted
-      (passes_accepted (state_in_range after) Accepted stays_in_range refl)
+      (passes_accepted (state_in_range after) accepted stays_in_range refl)

@@ -5,9 +5,8 @@ use mathlib.Core.Bool.{true, ◌&&◌, and-true}
 use mathlib.Core.List.{List, ◌++◌}
 use borrow.Author.Tests.{eq-eqb}
 use lib.ListN.{length}
-use Rattle.refusals.specs.declared.Answer.TheVariants.{Accepted}
 use Rattle.layout.specs.Layout.{state_length, demand_length}
-use Rattle.refusals.specs.Checks.{answer}
+use Rattle.refusals.specs.Checks.{accepted, answer}
 use Rattle.accept_tables.specs.Tables.{table_length_fits}
 use Rattle.accept_rows.specs.Acceptance.{state_lengths_fit, row_lengths_fit, state_numbers, demand_numbers, demand_checks}
 use Rattle.refusals.proofs.Answers.{lengths_passed, both_accepted}
@@ -22,10 +21,10 @@ module _ (c : Corridor) (row : List ℕ) (fits : state_lengths_fit c ≡ true) (
   pub row_alone : answer (demand_checks c row) ≡ answer (demand_numbers c row)
   row_alone = lengths_passed (demand_numbers c row) row_fits
 
-  pub row_is_accepted : answer (state_numbers c) ≡ Accepted → answer (demand_numbers c row) ≡ Accepted → RowAccepted c row
-  row_is_accepted accepted e =
+  pub row_is_accepted : answer (state_numbers c) ≡ accepted → answer (demand_numbers c row) ≡ accepted → RowAccepted c row
+  row_is_accepted before e =
       lengths_passed (state_numbers c ++ demand_numbers c row) row_fits
-      ∙ both_accepted (state_numbers c) (demand_numbers c row) accepted e
+      ∙ both_accepted (state_numbers c) (demand_numbers c row) before e
 
 -- a state of the same length fits as well
 pub same_length_fits : (c : Corridor) (after : List ℕ) → state_lengths_fit c ≡ true → length after ≡ state_length (cells_of c) → state_lengths_fit (corridor_of c.table after) ≡ true

@@ -2,9 +2,7 @@
 use Rattle.std.specs.Prelude.{ℕ, suc, ◌+◌, min, ◌≡◌, true, ◌&&◌, List, ◌∷◌, ◌++◌, ltb, eqb, length}
 use Rattle.whole.specs.Sums.{at_position}
 use Rattle.whole.specs.Search.{pick}
-use Rattle.refusals.specs.declared.Answer.{Answer}
-use Rattle.refusals.specs.declared.Answer.TheVariants.{Accepted}
-use Rattle.refusals.specs.Checks.{Check, answer, when_accepted, lengths}
+use Rattle.refusals.specs.Checks.{Answer, accepted, Check, answer, when_accepted, lengths}
 use Rattle.layout.specs.Layout.{entry_demand, on_demand_at, off_demand_at}
 use Rattle.layout.specs.Sheet.{sheet_length, sheet_from}
 use Rattle.layout.specs.Corridor.{Corridor, corridor_of, cells_of, row_of, entry_queue_of, count_of, queue_of, last_mode_of}
@@ -75,7 +73,7 @@ period_checks c demand sheet =
 
 -- the corridor and the demand row of an accepted period
 abbrev pub RowAccepted : Corridor → List ℕ → Type 0
-RowAccepted c demand = answer (row_checks c demand) ≡ Accepted
+RowAccepted c demand = answer (row_checks c demand) ≡ accepted
 
 -- what a period answers and leaves
 pub record PeriodDone (way : Sharing) (c : Corridor) (demand sheet : List ℕ) (a : Answer) (state_left sheet_left : List ℕ) : Type 0 where

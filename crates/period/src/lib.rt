@@ -15,10 +15,10 @@ mod passes;
 
 use layout::cells;
 use layout::sheet::sheet_length;
-use refusals::{Answer, Refusal};
+use refusals::Refusal;
 
 // What passes at a node: on the mainline and from the on-ramp, and whether the room there leaves the mainline free.
-#[derive(Clone, Copy)]
+#[derive(Clone, Copy, Debug, PartialEq, Eq)]
 pub struct Passed {
     pub main: u32,
     pub ramp: u32,
@@ -26,18 +26,20 @@ pub struct Passed {
 }
 
 // One period: numbers 1 to 7. On a refusal every list stays as it came.
-pub fn period(table: &[u32], state: &mut [u32], demand: &[u32], sheet: &mut [u32]) -> Answer
+pub fn period(
+    table: &[u32],
+    state: &mut [u32],
+    demand: &[u32],
+    sheet: &mut [u32],
+) -> Result<(), Refusal>
     ensures { PeriodDone asymmetric (corridor_of table.now state.old) demand.now sheet.old result state.new sheet.new }
 {
     if sheet.len() != sheet_length(cells(table)) {
-        return Answer::Refused(Refusal::Length);
+        return Err(Refusal::Length);
     }
-    let found = accept_rows::accept_row(table, state, demand);
-    if let Answer::Refused(refusal) = found {
-        return Answer::Refused(refusal);
-    }
+    accept_rows::accept_row(table, state, demand)?;
     run_accepted(table, state, demand, sheet);
-    Answer::Accepted
+    Ok(())
 }
 
 // An accepted period, for those who have made the checks already: every flow from the state as it was, then the state.

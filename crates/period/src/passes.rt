@@ -141,10 +141,8 @@ pub(crate) fn flows(table: &[u32], state: &[u32], demand: &[u32], sheet: &mut [u
     ensures { sheet.new ≡ sheet_of asymmetric (corridor_of table.now state.now) demand.now }
 {
     let n = cells(table);
-    let mut i = n - 1;
-    pass_last(n, table, state, demand, sheet, i);
-    while 0 < i {
-        i -= 1;
+    pass_last(n, table, state, demand, sheet, n - 1);
+    for i in (0..n - 1).rev() {
         pass_cell(n, table, state, demand, sheet, i);
     }
     let a = entry_queue(state) + entry_demand(demand);
@@ -170,9 +168,7 @@ pub(crate) fn bring_up_to_date(n: usize, state: &mut [u32], demand: &[u32], shee
     requires { Updatable n state.old demand.now sheet.now }
     ensures { state.new ≡ updated n state.old demand.now sheet.now }
 {
-    let mut i = n;
-    while 0 < i {
-        i -= 1;
+    for i in (0..n).rev() {
         let cell = cell_after(n, state, demand, sheet, i);
         put_cell(state, n, i, cell);
     }

@@ -1,21 +1,23 @@
 -- The rows of a run: the state after an accepted period is accepted, so table and state need no second check. Assumes nothing.
-use Prim.Native.Nat.{ℕ, zero, suc, ◌+◌, ◌-◌, ◌*◌, ◌/◌, ◌%◌, ◌≤◌, ◌<◌}
+use Prim.Native.Nat.{ℕ, zero, suc, ◌+◌, ◌-◌, ◌*◌, ◌/◌, ◌%◌, ◌≤◌, ◌<◌, zero-le}
 use mathlib.Core.Path.{◌≡◌, refl, sym, ap, ap₂, ◌∙◌}
 use mathlib.Core.Bool.{true, false, ◌&&◌}
-use mathlib.Core.List.{List}
-use native.Mathlib.Nat.{mul-le-mul_right, suc-mul, div-mul-le_self}
+use mathlib.Core.List.{List, ◌++◌}
+use native.Mathlib.Nat.{zero-mul, suc-mul, div-lt_iff_lt-mul, le-div_iff_mul-le}
+use Rattle.std.proofs.Math.Seq.{take-append_seam, drop-append_seam}
+use Rattle.std.proofs.lemmas.List.{length-append, drop-drop}
 use native.Mathlib.Numerals.{add-one}
 use native.Mathlib.Omega.{arith}
 use borrow.Author.Tests.{lt-ltb, le-ltb, leb-true, eqb-true}
 use lib.Dec.{leb, eqb}
-use lib.ListN.{length, take, drop, length-take, length-drop}
-use Rattle.whole.proofs.Search.{Searching, begins, goes_on, found, not_found}
+use Rattle.std.specs.Prelude.{Err}
+use lib.ListN.{length, take, drop, length-drop}
+use borrow.Author.Count.{below_more}
+use Rattle.whole.proofs.Search.{Passes, first_is, none_fails}
 use Rattle.refusals.specs.declared.Refusal.{Refusal}
 use Rattle.refusals.specs.declared.Refusal.TheVariants.{Length}
-use Rattle.refusals.specs.declared.Answer.{Answer}
-use Rattle.refusals.specs.declared.Answer.TheVariants.{Accepted, Refused}
 use Rattle.layout.specs.Layout.{demand_length}
-use Rattle.refusals.specs.Checks.{answer}
+use Rattle.refusals.specs.Checks.{Answer, accepted, answer}
 use Rattle.accept_rows.specs.Acceptance.{state_lengths_fit, row_lengths_fit, state_numbers, state_checks, demand_numbers, demand_checks}
 use Rattle.refusals.proofs.Answers.{length_fits_too, length_fails, accepted_passes}
 use Rattle.whole.proofs.Tests.{both_hold}
@@ -31,28 +33,54 @@ use Rattle.period_run.specs.Run.{rows, demand_row, is_accepted, corridor_after_p
 use Rattle.period_run.specs.Private.{Runnable, RowsDone}
 use Rattle.layout.specs.Corridor.{Corridor, corridor_of, cells_of}
 
--- The part of the demand list that the loop hands on, of n cells: it is the row of index k, and stands within the list
+-- what is left of the demand list after k rows, and a part of a row's size cut off it
 
-module _ (n : ℕ) (demand : List ℕ) (k : ℕ) where
-  row_within : k < rows n demand → k * demand_length n + demand_length n ≤ length demand
-  row_within h =
-      omega (arith, mul-le-mul_right (demand_length n) h, suc-mul k (demand_length n), div-mul-le_self (length demand) (demand_length n))
+pub record Left (n : ℕ) (demand : List ℕ) (size k : ℕ) (rest : List ℕ) : Type 0 where
+  pub wide : size ≡ demand_length n
+  pub is : rest ≡ drop (k * size) demand
 
-  pub part_is_row : {at width : ℕ} → width ≡ demand_length n → at ≡ k * width → take (at + width - at) (drop at demand) ≡ demand_row n demand k
-  part_is_row {at} {width} e f =
-      let same : at + width - at ≡ width = omega arith in ap (λ m. take m (drop at demand)) same ∙ rw (f, e)
+pub record Cut (size : ℕ) (rest row rest' : List ℕ) : Type 0 where
+  pub is : rest ≡ row ++ rest'
+  pub long : length row ≡ size
 
-  pub part_within : {at width all : ℕ} → width ≡ demand_length n → at ≡ k * width → all ≡ rows n demand → k < all → at + width ≤ length demand
-  part_within {all = all} e f g h = let inside : k < rows n demand = omega arith in rw (f, e) (row_within inside)
+module _ {n size k : ℕ} {demand rest : List ℕ} (left : Left n demand size k rest) where
+  length_left : length rest ≡ length demand - k * size
+  length_left = ap length left.is ∙ length-drop (k * size) demand
 
-  pub part_length : {at width all : ℕ} → width ≡ demand_length n → at ≡ k * width → all ≡ rows n demand → k < all → length (take (at + width - at) (drop at demand)) ≡ demand_length n
-  part_length {at} {width} e f g h =
-      let inside = part_within e f g h in
-      omega (arith, length-take (at + width - at) (drop at demand), length-drop at demand)
+  rows_by_size : rows n demand ≡ length demand / size
+  rows_by_size = ap (λ w. length demand / w) (sym left.wide)
 
--- the next row starts where this one ends
-pub next_start : (k width : ℕ) {at : ℕ} → at ≡ k * width → at + width ≡ (k + 1) * width
-next_start k width e = rw (add-one k, suc-mul k width, e)
+  -- too little for a row is left after the last one
+  pub rows_end : length rest < size → rows n demand ≤ k
+  rows_end short =
+      let past : length demand < suc k * size = omega (arith, length_left, suc-mul k size, short) in
+      let some : 0 < size = omega (arith, left.wide) in
+      let below = div-lt_iff_lt-mul {x = length demand} {y = suc k} some in
+      omega (arith, below.1 past, rows_by_size)
+
+  module _ {row rest' : List ℕ} (cut : Cut size rest row rest') where
+    pub row_inside : k < rows n demand
+    row_inside =
+        let some : 0 < size = omega (arith, left.wide) in
+        let fits : suc k * size ≤ length demand = omega (arith, length_left, suc-mul k size, ap length cut.is, length-append row rest', cut.long, some) in
+        omega (arith, (le-div_iff_mul-le {k = size} {x = suc k} {y = length demand} some).1 fits, rows_by_size)
+
+    -- it is the row of index k
+    pub is_row : row ≡ demand_row n demand k
+    is_row =
+        sym (take-append_seam row rest')
+        ∙ ap₂ (λ m xs. take m xs) (cut.long ∙ left.wide) (sym cut.is ∙ left.is ∙ ap (λ w. drop (k * w) demand) left.wide)
+
+    pub next_left : Left n demand size (k + 1) rest'
+    next_left =
+        record {
+          wide = left.wide;
+          is =
+              sym (drop-append_seam row rest')
+              ∙ ap₂ (λ m xs. drop m xs) cut.long (sym cut.is ∙ left.is)
+              ∙ drop-drop size (k * size) demand
+              ∙ ap (λ m. drop m demand) (sym (rw add-one (suc-mul k size)));
+        }
 
 -- what the fitting of the lists says
 pub lists_fit_lem : (n : ℕ) (demand sheet : List ℕ) → run_lists_fit n demand sheet ≡ true → (rows n demand ≤ 4_096) × (length sheet ≡ sheet_length n)
@@ -70,19 +98,19 @@ module _ (way : Sharing) (fair : Fair way) (c : Corridor) (demand sheet : List �
     pub sheet_is : now_sheet ≡ sheet_after_periods way c demand sheet k
     pub fits : state_lengths_fit (corridor_of c.table now) ≡ true
     pub sheet_fits : length now_sheet ≡ sheet_length (cells_of c)
-    pub accepted : answer (state_numbers (corridor_of c.table now)) ≡ Accepted
+    pub state_accepted : answer (state_numbers (corridor_of c.table now)) ≡ accepted
 
   pub starts : Runnable c demand sheet → Running 0 c.state sheet
   unfolding corridor_after_periods sheet_after_periods
   starts can =
-      record { is = refl; sheet_is = refl; fits = can.fits; sheet_fits = (lists_fit_lem (cells_of c) demand sheet can.lists).1; accepted = can.accepted }
+      record { is = refl; sheet_is = refl; fits = can.fits; sheet_fits = (lists_fit_lem (cells_of c) demand sheet can.lists).1; state_accepted = can.state_accepted }
 
   module _ {k : ℕ} {now now_sheet row : List ℕ} (running : Running k now now_sheet) (at : row ≡ demand_row (cells_of c) demand k) where
     -- the row's answer is that of the definitions
     pub answer_is : {a : Answer} → a ≡ answer (demand_numbers (corridor_of c.table now) row) → a ≡ row_answer way c demand k
     answer_is e = e ∙ ap₂ (λ x r. answer (demand_numbers x r)) running.is at
 
-    module _ {next next_sheet : List ℕ} (passed : answer (demand_numbers (corridor_of c.table now) row) ≡ Accepted) (done : RowDone way (corridor_of c.table now) row next next_sheet) where
+    module _ {next next_sheet : List ℕ} (passed : answer (demand_numbers (corridor_of c.table now) row) ≡ accepted) (done : RowDone way (corridor_of c.table now) row next next_sheet) where
       next_is : corridor_of c.table next ≡ corridor_after way (corridor_of c.table now) row
       next_is = ap (corridor_of c.table) done.leaves_state
 
@@ -94,18 +122,18 @@ module _ (way : Sharing) (fair : Fair way) (c : Corridor) (demand sheet : List �
             sheet_is = rw (add-one k, ← running.is, ← at) done.leaves_sheet;
             fits = same_length_fits (corridor_of c.table now) next running.fits (ap length done.leaves_state ∙ after_length way (corridor_of c.table now) row);
             sheet_fits = ap length done.leaves_sheet ∙ of_length way (corridor_of c.table now) row;
-            accepted = ap (λ x. answer (state_numbers x)) next_is ∙ state_stays_accepted way fair (corridor_of c.table now) row running.accepted passed;
+            state_accepted = ap (λ x. answer (state_numbers x)) next_is ∙ state_stays_accepted way fair (corridor_of c.table now) row running.state_accepted passed;
           }
 
-is_refused : (a : Answer) (refusal : Refusal) → a ≡ Refused refusal → is_accepted a ≡ false
+is_refused : (a : Answer) (refusal : Refusal) → a ≡ Err refusal → is_accepted a ≡ false
 is_refused a refusal e = rw e
 
 -- How the rows end
 
 module _ (way : Sharing) (fair : Fair way) (c : Corridor) (demand sheet : List ℕ) where
-  -- where the search for a refused row stands
-  abbrev pub Looking : ℕ → ℕ → Type 0
-  Looking n k = Searching (rows (cells_of c) demand) (λ k. is_accepted (row_answer way c demand k)) n k
+  -- the first k rows are accepted
+  abbrev pub Passed : ℕ → Type 0
+  Passed k = Passes k (λ k. is_accepted (row_answer way c demand k))
 
   finished : {ran : Ran} {now now_sheet : List ℕ} → ran.periods ≡ completed way c demand → ran.answer ≡ rows_answer way c demand → Running way fair c demand sheet ran.periods now now_sheet → RowsDone way c demand sheet ran now now_sheet
   finished count a running =
@@ -116,58 +144,47 @@ module _ (way : Sharing) (fair : Fair way) (c : Corridor) (demand sheet : List �
         leaves_sheet = running.sheet_is ∙ ap (sheet_after_periods way c demand sheet) count;
       }
 
-  pub all_rows_done : {n k : ℕ} {now now_sheet : List ℕ} → Looking n k → n ≤ k → Running way fair c demand sheet k now now_sheet → RowsDone way c demand sheet (record { periods = n; answer = Accepted }) now now_sheet
-  all_rows_done {n} {k} looking ends running =
-      let all = not_found looking ends in
-      let same : k ≡ n = omega (arith, looking.reaches) in
-      finished all (sym (rw (le-ltb (completed way c demand) (rows (cells_of c) demand) (omega (arith, all, looking.whole))))) (rw same at running)
+  pub all_rows_done : {n k : ℕ} {now now_sheet : List ℕ} → n ≡ rows (cells_of c) demand → k ≡ n → Passed k → Running way fair c demand sheet k now now_sheet
+      → RowsDone way c demand sheet (record { periods = n; answer = accepted }) now now_sheet
+  all_rows_done {n} {k} whole all passed running =
+      let done : n ≡ completed way c demand = whole ∙ sym (none_fails (rows (cells_of c) demand) _ (λ k h. passed k (omega arith))) in
+      finished done (sym (rw (le-ltb (completed way c demand) (rows (cells_of c) demand) (omega (arith, done, whole))))) (rw all at running)
 
-  pub row_refused : {n k : ℕ} {now now_sheet row : List ℕ} {a : Answer} {refusal : Refusal} → Looking n k → k < n → Running way fair c demand sheet k now now_sheet → row ≡ demand_row (cells_of c) demand k → a ≡ answer (demand_numbers (corridor_of c.table now) row) → a ≡ Refused refusal → RowsDone way c demand sheet (record { periods = k; answer = Refused refusal }) now now_sheet
-  row_refused {n} {k} {refusal = refusal} looking h running at asked e =
+  pub row_refused : {k : ℕ} {now now_sheet row : List ℕ} {a : Answer} {refusal : Refusal} → k < rows (cells_of c) demand → Passed k → Running way fair c demand sheet k now now_sheet
+      → row ≡ demand_row (cells_of c) demand k → a ≡ answer (demand_numbers (corridor_of c.table now) row) → a ≡ Err refusal → RowsDone way c demand sheet (record { periods = k; answer = Err refusal }) now now_sheet
+  row_refused {k} {refusal = refusal} h passed running at asked e =
       let a-is = answer_is way fair c demand sheet running at asked in
-      let here = found looking h (sym (is_refused _ refusal (sym a-is ∙ e))) refl in
+      let here : k ≡ completed way c demand =
+      first_is (rows (cells_of c) demand) _ k (record { reaches = omega arith; before = passed; fails = λ _. is_refused _ refusal (sym a-is ∙ e) }) in
       finished here
-      (sym e ∙ a-is ∙ ap (row_answer way c demand) here ∙ sym (rw (lt-ltb (completed way c demand) (rows (cells_of c) demand) (omega (arith, here, looking.whole)))))
+      (sym e ∙ a-is ∙ ap (row_answer way c demand) here ∙ sym (rw (lt-ltb (completed way c demand) (rows (cells_of c) demand) (omega (arith, here, h)))))
       running
 
--- The loop over the rows, where it stands at the row of index k, which begins at a place of the demand list
+-- The loop over the rows, where k of them are done
 
 module _ (way : Sharing) (fair : Fair way) (c : Corridor) (demand sheet : List ℕ) where
-  pub record AtRow (width all k at : ℕ) (now now_sheet : List ℕ) : Type 0 where
-    pub width_is : width ≡ demand_length (cells_of c)
-    pub at_is : at ≡ k * width
-    pub few : all ≤ 4_096
-    pub looking : Looking way fair c demand sheet all k
+  pub record AtRow (size k : ℕ) (rest now now_sheet : List ℕ) : Type 0 where
+    pub left : Left (cells_of c) demand size k rest
+    pub reaches : k ≤ rows (cells_of c) demand
+    pub passed : Passed way fair c demand sheet k
     pub running : Running way fair c demand sheet k now now_sheet
-    pub same_state : length now ≡ length c.state
-    pub same_sheet : length now_sheet ≡ length sheet
 
-  pub first_row : {width all : ℕ} → Runnable c demand sheet → width ≡ demand_length (cells_of c) → all ≡ length demand / width → AtRow width all 0 0 c.state sheet
-  first_row can width all =
-      let same = all ∙ ap (λ w. length demand / w) width in
-      record {
-        width_is = width;
-        at_is = omega arith;
-        few = omega (arith, same, (lists_fit_lem (cells_of c) demand sheet can.lists).0);
-        looking = begins _ same;
+  pub first_row : {size k : ℕ} {rest : List ℕ} → Runnable c demand sheet → size ≡ demand_length (cells_of c) → k ≡ 0 → rest ≡ demand → AtRow size k rest c.state sheet
+  first_row {size} {k} can wide none all =
+      rw none
+      (record {
+        left = record { wide = wide; is = rw zero-mul all };
+        reaches = zero-le;
+        passed = λ k h. absurd (omega arith);
         running = starts way fair c demand sheet can;
-        same_state = refl;
-        same_sheet = refl;
-      }
+      })
 
-  module _ {width all k at : ℕ} {now now_sheet : List ℕ} (so : AtRow width all k at now now_sheet) (inside : k < all) where
-    -- the row that the loop hands on
-    abbrev pub row : List ℕ
-    row = take (at + width - at) (drop at demand)
+  pub rows_done : {size k n : ℕ} {rest now now_sheet : List ℕ} → AtRow size k rest now now_sheet → length rest < size → n ≡ rows (cells_of c) demand → RowsDone way c demand sheet (record { periods = n; answer = accepted }) now now_sheet
+  rows_done so short n = all_rows_done way fair c demand sheet n (omega (arith, n, so.reaches, rows_end so.left short)) so.passed so.running
 
-    pub row_ends_within : at + width ≤ length demand
-    row_ends_within = part_within (cells_of c) demand k so.width_is so.at_is so.looking.whole inside
-
-    row_is : row ≡ demand_row (cells_of c) demand k
-    row_is = part_is_row (cells_of c) demand k so.width_is so.at_is
-
+  module _ {size k : ℕ} {rest now now_sheet row rest' : List ℕ} (so : AtRow size k rest now now_sheet) (cut : Cut size rest row rest') where
     row_length : length row ≡ demand_length (cells_of c)
-    row_length = part_length (cells_of c) demand k so.width_is so.at_is so.looking.whole inside
+    row_length = cut.long ∙ so.left.wide
 
     pub row_lengths_fit_lem : row_lengths_fit (corridor_of c.table now) row ≡ true
     row_lengths_fit_lem = row_fits (corridor_of c.table now) row so.running.fits row_length
@@ -176,37 +193,37 @@ module _ (way : Sharing) (fair : Fair way) (c : Corridor) (demand sheet : List �
       numbers_asked : a ≡ answer (demand_numbers (corridor_of c.table now) row)
       numbers_asked = asked ∙ row_alone (corridor_of c.table now) row so.running.fits row_length
 
-      pub refused_here : {refusal : Refusal} → a ≡ Refused refusal → RowsDone way c demand sheet (record { periods = k; answer = Refused refusal }) now now_sheet
-      refused_here e = row_refused way fair c demand sheet so.looking inside so.running row_is numbers_asked e
+      pub refused_here : {refusal : Refusal} → a ≡ Err refusal → RowsDone way c demand sheet (record { periods = k; answer = Err refusal }) now now_sheet
+      refused_here e =
+          row_refused way fair c demand sheet (row_inside so.left cut) so.passed so.running (is_row so.left cut) numbers_asked e
 
-      module _ (yes : a ≡ Accepted) where
-        passed : answer (demand_numbers (corridor_of c.table now) row) ≡ Accepted
-        passed = sym numbers_asked ∙ yes
+      module _ (yes : a ≡ accepted) where
+        row_passed : answer (demand_numbers (corridor_of c.table now) row) ≡ accepted
+        row_passed = sym numbers_asked ∙ yes
 
-        pub can_be_run : RowAccepted (corridor_of c.table now) row × (length now_sheet ≡ sheet_length (cells_of c))
-        can_be_run =
-            (row_is_accepted (corridor_of c.table now) row so.running.fits row_length so.running.accepted passed, so.running.sheet_fits)
+        pub can_be_run : RowAccepted (corridor_of c.table now) row
+        can_be_run = row_is_accepted (corridor_of c.table now) row so.running.fits row_length so.running.state_accepted row_passed
 
-        pub next_row : {next next_sheet : List ℕ} → RowDone way (corridor_of c.table now) row next next_sheet → length next ≡ length now → length next_sheet ≡ length now_sheet → AtRow width all (k + 1) (at + width) next next_sheet
-        next_row done state-stays sheet-stays =
-            record {
-              width_is = so.width_is;
-              at_is = next_start k width so.at_is;
-              few = so.few;
-              looking = goes_on so.looking inside (ap is_accepted (answer_is way fair c demand sheet so.running row_is numbers_asked)) (rw yes);
-              running = steps way fair c demand sheet so.running row_is passed done;
-              same_state = state-stays ∙ so.same_state;
-              same_sheet = sheet-stays ∙ so.same_sheet;
-            }
+        pub next_row : {next next_sheet : List ℕ} {size' k' : ℕ} → size' ≡ size → k' ≡ k + 1 → RowDone way (corridor_of c.table now) row next next_sheet → AtRow size' k' rest' next next_sheet
+        next_row same one done =
+            let here : is_accepted (row_answer way c demand k) ≡ true =
+            ap is_accepted (sym (answer_is way fair c demand sheet so.running (is_row so.left cut) numbers_asked) ∙ yes) in
+            rw (same, one)
+            (record {
+              left = next_left so.left cut;
+              reaches = omega (arith, row_inside so.left cut);
+              passed = below_more _ k so.passed here;
+              running = steps way fair c demand sheet so.running (is_row so.left cut) row_passed done;
+            })
 
 -- How a run ends: refused by 1 to 5, or with its rows
 
 module _ (way : Sharing) (c : Corridor) (demand sheet : List ℕ) where
-  refused : {refusal : Refusal} → Refused refusal ≡ answer (run_checks c demand sheet) → RunDone way c demand sheet (record { periods = 0; answer = Refused refusal }) c.state sheet
+  refused : {refusal : Refusal} → Err refusal ≡ answer (run_checks c demand sheet) → RunDone way c demand sheet (record { periods = 0; answer = Err refusal }) c.state sheet
   unfolding corridor_after_periods sheet_after_periods
   refused e = record { periods = rw (← e); answered = rw (← e); leaves_state = rw (← e); leaves_sheet = rw (← e) }
 
-  pub lists_refused : run_lists_fit (cells_of c) demand sheet ≡ false → RunDone way c demand sheet (record { periods = 0; answer = Refused Length }) c.state sheet
+  pub lists_refused : run_lists_fit (cells_of c) demand sheet ≡ false → RunDone way c demand sheet (record { periods = 0; answer = Err Length }) c.state sheet
   lists_refused e = refused (length_fails (state_numbers c) (state_lengths_fit c) e)
 
   module _ (lists : run_lists_fit (cells_of c) demand sheet ≡ true) where
@@ -214,10 +231,10 @@ module _ (way : Sharing) (c : Corridor) (demand sheet : List ℕ) where
     checks_of_the_state : answer (run_checks c demand sheet) ≡ answer (state_checks c)
     checks_of_the_state = length_fits_too (state_numbers c) (state_lengths_fit c) lists
 
-    pub state_refused : {refusal : Refusal} → Refused refusal ≡ answer (state_checks c) → RunDone way c demand sheet (record { periods = 0; answer = Refused refusal }) c.state sheet
+    pub state_refused : {refusal : Refusal} → Err refusal ≡ answer (state_checks c) → RunDone way c demand sheet (record { periods = 0; answer = Err refusal }) c.state sheet
     state_refused e = refused (e ∙ sym checks_of_the_state)
 
-    pub run_done : {ran : Ran} {now now_sheet : List ℕ} → Accepted ≡ answer (state_checks c) → RowsDone way c demand sheet ran now now_sheet → RunDone way c demand sheet ran now now_sheet
+    pub run_done : {ran : Ran} {now now_sheet : List ℕ} → accepted ≡ answer (state_checks c) → RowsDone way c demand sheet ran now now_sheet → RunDone way c demand sheet ran now now_sheet
     run_done e done =
         let passed = e ∙ sym checks_of_the_state in
         record {
@@ -228,9 +245,9 @@ module _ (way : Sharing) (c : Corridor) (demand sheet : List ℕ) where
         }
 
   -- once 1 to 5 have passed the rows can be run
-  pub can_run : run_lists_fit (cells_of c) demand sheet ≡ true → Accepted ≡ answer (state_checks c) → Runnable c demand sheet
+  pub can_run : run_lists_fit (cells_of c) demand sheet ≡ true → accepted ≡ answer (state_checks c) → Runnable c demand sheet
   can_run lists e =
-      let passed = accepted_passes _ _ (sym e) in record { lists = lists; fits = passed.0 0 (omega arith); accepted = passed.1 }
+      let passed = accepted_passes _ _ (sym e) in record { lists = lists; fits = passed.0 0 (omega arith); state_accepted = passed.1 }
 
 -- no period changes the table
 pub table_stays : (way : Sharing) (c : Corridor) (demand : List ℕ) (k : ℕ) → (corridor_after_periods way c demand k).table ≡ c.table

@@ -1,8 +1,7 @@
 -- Cited by private contracts and proofs alone: no public promise rests on this file.
 -- What the rows of a run leave, and what they ask for.
 use Rattle.std.specs.Prelude.{ℕ, ◌≡◌, true, List}
-use Rattle.refusals.specs.declared.Answer.TheVariants.{Accepted}
-use Rattle.refusals.specs.Checks.{answer}
+use Rattle.refusals.specs.Checks.{accepted, answer}
 use Rattle.layout.specs.Corridor.{Corridor, cells_of}
 use Rattle.accept_rows.specs.Acceptance.{state_lengths_fit, state_numbers}
 use Rattle.period.specs.Sharing.{Sharing}
@@ -13,7 +12,7 @@ use Rattle.period_run.specs.Run.{run_lists_fit, corridor_after_periods, sheet_af
 pub record Runnable (c : Corridor) (demand sheet : List ℕ) : Type 0 where
   pub lists : run_lists_fit (cells_of c) demand sheet ≡ true
   pub fits : state_lengths_fit c ≡ true
-  pub accepted : answer (state_numbers c) ≡ Accepted
+  pub state_accepted : answer (state_numbers c) ≡ accepted
 
 -- what its rows answer and leave
 pub record RowsDone (way : Sharing) (c : Corridor) (demand sheet : List ℕ) (ran : Ran) (state_left sheet_left : List ℕ) : Type 0 where

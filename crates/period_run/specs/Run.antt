@@ -1,9 +1,7 @@
 -- Rules, "One period": a run of K demand rows end to end.
-use Rattle.std.specs.Prelude.{ℕ, zero, suc, ◌*◌, ◌/◌, ◌%◌, ◌≡◌, Bool, true, false, ◌&&◌, List, ◌∷◌, leb, ltb, eqb, length, take, drop}
+use Rattle.std.specs.Prelude.{ℕ, zero, suc, ◌*◌, ◌/◌, ◌%◌, ◌≡◌, Bool, true, false, ◌&&◌, List, ◌∷◌, leb, ltb, eqb, length, take, drop, Ok, Err}
 use Rattle.whole.specs.Search.{pick, first_failing}
-use Rattle.refusals.specs.declared.Answer.{Answer}
-use Rattle.refusals.specs.declared.Answer.TheVariants.{Accepted, Refused}
-use Rattle.refusals.specs.Checks.{Check, answer, when_accepted, lengths}
+use Rattle.refusals.specs.Checks.{Answer, accepted, Check, answer, when_accepted, lengths}
 use Rattle.layout.specs.Layout.{demand_length}
 use Rattle.layout.specs.Sheet.{sheet_length}
 use Rattle.layout.specs.Corridor.{Corridor, cells_of}
@@ -29,8 +27,8 @@ abbrev pub run_checks : Corridor → List ℕ → List ℕ → List Check
 run_checks c demand sheet = lengths (state_lengths_fit c && run_lists_fit (cells_of c) demand sheet) ∷ state_numbers c
 
 abbrev pub is_accepted : Answer → Bool
-is_accepted Accepted = true
-is_accepted (Refused refusal) = false
+is_accepted (Ok done) = true
+is_accepted (Err refusal) = false
 
 module _ (way : Sharing) (c : Corridor) (demand : List ℕ) where
   -- the corridor after the first k periods
@@ -53,7 +51,7 @@ module _ (way : Sharing) (c : Corridor) (demand : List ℕ) where
 
   -- the first refused row's refusal, if there is one
   abbrev pub rows_answer : Answer
-  rows_answer = pick (ltb completed (rows (cells_of c) demand)) (row_answer completed) Accepted
+  rows_answer = pick (ltb completed (rows (cells_of c) demand)) (row_answer completed) accepted
 
 module _ (way : Sharing) (c : Corridor) (demand sheet : List ℕ) where
   -- the periods completed, 0 when 1 to 5 refuse

@@ -10,14 +10,14 @@ ghost use Rattle.period_run.specs.Run.{run_lists_fit, RunDone};
 ghost use Rattle.period_run.specs.Private.{Runnable, RowsDone};
 
 use layout::sheet::sheet_length;
-use layout::{cells, demand_length, demand_space};
-use refusals::{Answer, Refusal};
+use layout::{DEMAND_ROOM, cells, demand_length, space};
+use refusals::Refusal;
 
 // The periods that a run completed, and its answer.
-#[derive(Clone, Copy)]
+#[derive(Clone, Copy, Debug, PartialEq, Eq)]
 pub struct Ran {
     pub periods: usize,
-    pub answer: Answer,
+    pub answer: Result<(), Refusal>,
 }
 
 // Number 1 of the demand rows and the sheet of a run of n cells.
@@ -42,25 +42,18 @@ fn run_rows(
     ensures { RowsDone asymmetric (corridor_of table.now state.old) demand.now sheet.old result state.new sheet.new }
 {
     let width = demand_length(cells(table));
-    let rows = demand.len() / width;
-    let mut k = 0;
-    let mut at = 0;
-    while k < rows {
-        let row = &demand[at..at + width];
-        let checked = accept_limits::accept_demand(table, limits, state, row);
-        if let Answer::Refused(refusal) = checked {
+    for (k, row) in demand.chunks_exact(width).enumerate() {
+        if let Err(refusal) = accept_limits::accept_demand(table, limits, state, row) {
             return Ran {
                 periods: k,
-                answer: Answer::Refused(refusal),
+                answer: Err(refusal),
             };
         }
         period::run_accepted(table, state, row, sheet);
-        at += width;
-        k += 1;
     }
     Ran {
-        periods: rows,
-        answer: Answer::Accepted,
+        periods: demand.len() / width,
+        answer: Ok(()),
     }
 }
 
@@ -70,8 +63,8 @@ fn run_within_limits(table: &[u32], state: &mut [u32], demand: &[u32], sheet: &m
     ensures { RowsDone asymmetric (corridor_of table.now state.old) demand.now sheet.old result state.new sheet.new }
 {
     let width = demand_length(cells(table));
-    let mut space = demand_space();
-    let limits: &mut [u32] = &mut space[..width];
+    let mut room: [u32; DEMAND_ROOM] = space();
+    let limits = &mut room[..width];
     accept_limits::demand_limits(table, limits);
     run_rows(table, limits, state, demand, sheet)
 }
@@ -84,14 +77,13 @@ pub fn run(table: &[u32], state: &mut [u32], demand: &[u32], sheet: &mut [u32]) 
     if !run_lists_fit(cells(table), demand, sheet) {
         return Ran {
             periods: 0,
-            answer: Answer::Refused(Refusal::Length),
+            answer: Err(Refusal::Length),
         };
     }
-    let found = accept_rows::accept_state(table, state);
-    if let Answer::Refused(refusal) = found {
+    if let Err(refusal) = accept_rows::accept_state(table, state) {
         return Ran {
             periods: 0,
-            answer: Answer::Refused(refusal),
+            answer: Err(refusal),
         };
     }
     run_within_limits(table, state, demand, sheet)

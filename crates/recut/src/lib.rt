@@ -47,8 +47,8 @@ fn divide(all: u64, whole: u32) -> Share
         };
     }
     Share {
-        vehicles: all / u64::from(whole),
-        rest: (all % u64::from(whole)) as u32,
+        vehicles: all / (whole as u64),
+        rest: (all % (whole as u64)) as u32,
     }
 }
 
@@ -57,13 +57,13 @@ fn divide(all: u64, whole: u32) -> Share
 pub fn share_by_hand(n: u32, whole: u32, jam: u32, rest: u32) -> Share
     ensures { result ≡ by_hand n whole jam rest }
 {
-    let product = u64::from(n) * u64::from(jam);
+    let product = n as u64 * jam as u64;
     if whole <= rest {
-        return divide(product + u64::from(rest), whole);
+        return divide(product + rest as u64, whole);
     }
     let own = divide(product, whole);
-    let over = u64::from(own.rest) + u64::from(rest);
-    if over < u64::from(whole) {
+    let over = own.rest as u64 + rest as u64;
+    if over < whole as u64 {
         return Share {
             vehicles: own.vehicles,
             rest: over as u32,
@@ -71,7 +71,7 @@ pub fn share_by_hand(n: u32, whole: u32, jam: u32, rest: u32) -> Share
     }
     Share {
         vehicles: own.vehicles + 1,
-        rest: (over - u64::from(whole)) as u32,
+        rest: (over - whole as u64) as u32,
     }
 }
 
@@ -123,7 +123,7 @@ fn next_piece(pieces: &[u32], piece: Piece, jam: u32) -> Piece
         Piece {
             cell,
             number: piece.number + 1,
-            before: piece.before + u64::from(jam),
+            before: piece.before + jam as u64,
         }
     } else {
         Piece {
@@ -158,7 +158,13 @@ fn cut(old: &[u32], state: &[u32], pieces: &[u32], new: &[u32], list: &mut [u32]
 
 // The re-cut of a table and a state into a new table, with one piece count for each old cell. The new state goes to the list; on a refusal
 // that stays as it came.
-pub fn recut(old: &[u32], state: &[u32], pieces: &[u32], new: &[u32], list: &mut [u32]) -> Result<(), Refusal>
+pub fn recut(
+    old: &[u32],
+    state: &[u32],
+    pieces: &[u32],
+    new: &[u32],
+    list: &mut [u32],
+) -> Result<(), Refusal>
     ensures { RecutDone (corridor_of old.now state.now) pieces.now new.now list.old result list.new }
 {
     recut_checks::accept(Change::Cut, old, state, pieces, new, list)?;

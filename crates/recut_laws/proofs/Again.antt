@@ -62,11 +62,11 @@ module _ (old : Corridor) (pieces new : List ℕ) (known : CutFits old pieces ne
   cut = new_corridor old pieces new
 
   -- what the cut left fits a join under a table that keeps the cells
-  module _ (table : List ℕ) (accepted : answer (table_checks table) ≡ accepted) (keeps : KeepsCells old.table table) where
+  module _ (table : List ℕ) (table_accepted : answer (table_checks table) ≡ accepted) (keeps : KeepsCells old.table table) where
     joins_again : JoinFits (new_corridor old pieces new) pieces table
     joins_again =
         let change = known.change in
-        let own = accepted_passes _ _ accepted in
+        let own = accepted_passes _ _ table_accepted in
         let state = new_state_is_accepted old pieces new known in
         record {
           change =

@@ -10,7 +10,7 @@ ghost use Rattle.whole.specs.Search.{within};
 pub fn least(a: u64, b: u64) -> u64
     ensures { result ≡ min a b }
 {
-    if a <= b { a } else { b }
+    a.min(b)
 }
 
 // a·b / ONE, rounded down. The product of two 32-bit numbers always fits 64 bits.

@@ -1,4 +1,5 @@
-use mathlib.Core.Path.{ap₂}
+use Rattle.std.proofs.Common.{ap, ap₂}
+use Rattle.std.specs.Prelude.{Ok}
 use mathlib.Core.Bool.{◌&&◌}
 use Rattle.whole.proofs.Tests.{both_hold}
 use Rattle.calibrate_fit.specs.Samples.{sample_of}
@@ -11,4 +12,4 @@ unfolding sample_of
 returns c = let given = c.args in
     let both = ap₂ (λ flow occupancy. flow && occupancy) c.flow_in_range.ensures c.occupancy_in_range.ensures in
     let in_range = both_hold _ _ (holds both c.if-not-flow_in_range-occupancy_in_range.false-raw) in
-    rw (flow_is_finite given.flow in_range.0, in_range.0, occupancy_is_finite given.occupancy in_range.1, in_range.1) c.good_sample.ensures
+    rw (flow_is_finite given.flow in_range.0, in_range.0, occupancy_is_finite given.occupancy in_range.1, in_range.1) (ap Ok c.good_sample.ensures)

@@ -1,32 +1,28 @@
+use Rattle.std.proofs.Common.{◌∙◌}
+use Rattle.std.proofs.lemmas.Result.{err_from_is_err_and}
 use lib.Ieee.{of_bits, of_int}
-use Rattle.calibrate_rows.proofs.Answers.{fails, holds}
+use Rattle.calibrate_rows.proofs.Answers.{in_turn, refuses, goes_on}
 use Rattle.calibrate_rows.proofs.values_fit.Goals as goal
 
-pub returns-then-not-value_fits : goal.returns-then-not-value_fits
+pub returns-in_err-value_fits : goal.returns-in_err-value_fits
 unfolding of_bits of_int
-returns-then-not-value_fits c = rw (fails c.value_fits.ensures c.if-not-value_fits.true-raw)
+returns-in_err-value_fits c =
+    let p = err_from_is_err_and c.from_residual.result c.from_residual.ensures.1 in
+    rw (p.1, p.2) (refuses _ _ _ c.in_err-value_fits.ensures ∙ in_turn c.args.values)
 
-pub returns-then-not-value_fits-2 : goal.returns-then-not-value_fits-2
+pub returns-in_err-value_fits-2 : goal.returns-in_err-value_fits-2
 unfolding of_bits of_int
-returns-then-not-value_fits-2 c = let v = holds c.value_fits.ensures c.if-not-value_fits.false-raw in
-    rw (v, fails c.value_fits-2.ensures c.if-not-value_fits-2.true-raw)
+returns-in_err-value_fits-2 c =
+    let p = err_from_is_err_and c.from_residual-in_err-value_fits-2.result c.from_residual-in_err-value_fits-2.ensures.1 in
+    rw (p.1, p.2) (goes_on _ _ c.in_ok-value_fits.ensures (refuses _ _ _ c.in_err-value_fits-2.ensures) ∙ in_turn c.args.values)
 
-pub returns-then-not-value_fits-3 : goal.returns-then-not-value_fits-3
+pub returns-in_err-value_fits-3 : goal.returns-in_err-value_fits-3
 unfolding of_bits of_int
-returns-then-not-value_fits-3 c = let v = holds c.value_fits.ensures c.if-not-value_fits.false-raw in
-    let w = holds c.value_fits-2.ensures c.if-not-value_fits-2.false-raw in
-    rw (v, w, fails c.value_fits-3.ensures c.if-not-value_fits-3.true-raw)
-
-pub returns-then-not-value_fits-4 : goal.returns-then-not-value_fits-4
-unfolding of_bits of_int
-returns-then-not-value_fits-4 c = let v = holds c.value_fits.ensures c.if-not-value_fits.false-raw in
-    let w = holds c.value_fits-2.ensures c.if-not-value_fits-2.false-raw in
-    let capacity = holds c.value_fits-3.ensures c.if-not-value_fits-3.false-raw in
-    rw (v, w, capacity, fails c.value_fits-4.ensures c.if-not-value_fits-4.true-raw)
+returns-in_err-value_fits-3 c =
+    let p = err_from_is_err_and c.from_residual-in_err-value_fits-3.result c.from_residual-in_err-value_fits-3.ensures.1 in
+    rw (p.1, p.2) (goes_on _ _ c.in_ok-value_fits.ensures (goes_on _ _ c.in_ok-value_fits-2.ensures (refuses _ _ _ c.in_err-value_fits-3.ensures)) ∙ in_turn c.args.values)
 
 pub returns : goal.returns
 unfolding of_bits of_int
-returns c = let v = holds c.value_fits.ensures c.if-not-value_fits.false-raw in
-    let w = holds c.value_fits-2.ensures c.if-not-value_fits-2.false-raw in
-    let capacity = holds c.value_fits-3.ensures c.if-not-value_fits-3.false-raw in
-    rw (v, w, capacity, holds c.value_fits-4.ensures c.if-not-value_fits-4.false-raw)
+returns c =
+    goes_on _ _ c.in_ok-value_fits.ensures (goes_on _ _ c.in_ok-value_fits-2.ensures (goes_on _ _ c.in_ok-value_fits-3.ensures c.value_fits-4.ensures)) ∙ in_turn c.args.values

@@ -1,24 +1,25 @@
-use mathlib.Core.Path.{refl, ap, ◌∙◌}
-use Rattle.layout.specs.Layout.{demand_length}
-use native.Mathlib.Omega.{arith}
-use Rattle.period_run.proofs.Rows.{first_row, refused_here, can_be_run, next_row, all_rows_done}
+use Rattle.std.proofs.Common.{rules}
+use Rattle.period_run.proofs.Rows.{first_row, refused_here, can_be_run, next_row, rows_done}
 use Rattle.period_run.proofs.run_rows.Goals as goal
 
 pub loop-k-init : goal.loop-k-init
-loop-k-init c =
-    first_row _ _ _ _ _ c.requires.runnable (c.demand_length-width.ensures ∙ ap demand_length c.cells.ensures) refl
+loop-k-init c = first_row _ _ _ _ _ c.requires.runnable (search rules) (search rules) (search rules)
 
-pub returns-in-Refused : goal.returns-in-Refused
-returns-in-Refused c =
-    refused_here _ _ _ _ _ c.loop-k.invariant c.loop-k-test.true c.accept_demand-checked.ensures c.in-Refused.is
+pub returns-in-Err : goal.returns-in-Err
+returns-in-Err c =
+    let step = c.in-Some.ensures.steps in
+    rw step.1
+    (refused_here _ _ _ _ _ c.loop-k.invariant (record { is = step.0.1.0; long = step.0.1.1 }) c.accept_demand.ensures c.in-Err.is)
 
 pub run_accepted-requires-clause-row_accepted : goal.run_accepted-requires-clause-row_accepted
 run_accepted-requires-clause-row_accepted c =
-    (can_be_run _ _ _ _ _ c.loop-k.invariant c.loop-k-test.true c.accept_demand-checked.ensures c.in_default.is).0
+    let step = c.in-Some.ensures.steps in
+    can_be_run _ _ _ _ _ c.loop-k.invariant (record { is = step.0.1.0; long = step.0.1.1 }) c.accept_demand.ensures c.in_default.is
 
 pub loop-k-preserved : goal.loop-k-preserved
 loop-k-preserved c =
-    next_row _ _ _ _ _ c.loop-k.invariant c.loop-k-test.true c.accept_demand-checked.ensures c.in_default.is c.run_accepted.ensures (omega arith) (omega arith)
+    let step = c.in-Some.ensures.steps in
+    next_row _ _ _ _ _ c.loop-k.invariant (record { is = step.0.1.0; long = step.0.1.1 }) c.accept_demand.ensures c.in_default.is step.0.0 step.2 c.run_accepted.ensures
 
 pub returns : goal.returns
-returns c = let so = c.loop-k.invariant in all_rows_done _ _ _ _ _ so.looking c.loop-k-test.false so.running
+returns c = rows_done _ _ _ _ _ c.loop-k.invariant c.in-None.ensures.steps.0.1.0 (search rules)

@@ -7,8 +7,11 @@ use Rattle.period.proofs.Facts.{some_cell, last_workable}
 use Rattle.period.proofs.Filling.{begins, entry_asks, goes_on, ends}
 use Rattle.period.proofs.passes.flows.Goals as goal
 
-pub overflow_sub-i : goal.overflow_sub-i
-overflow_sub-i c = omega (arith, some_cell (corridor_of c.args.table.now c.args.state.now) c.args.demand.now c.requires.row_accepted c.cells-n.ensures)
+pub overflow_sub-n : goal.overflow_sub-n
+overflow_sub-n c = omega (arith, some_cell (corridor_of c.args.table.now c.args.state.now) c.args.demand.now c.requires.row_accepted c.cells-n.ensures)
+
+pub overflow_step-i : goal.overflow_step-i
+overflow_step-i c = omega (arith, some_cell (corridor_of c.args.table.now c.args.state.now) c.args.demand.now c.requires.row_accepted c.cells-n.ensures)
 
 pub pass_last-requires-clause-i_value : goal.pass_last-requires-clause-i_value
 pass_last-requires-clause-i_value c =

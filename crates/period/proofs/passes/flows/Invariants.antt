@@ -5,6 +5,3 @@ use Rattle.period.proofs.passes.flows.Given as goal
 
 abbrev pub invariant-loop-i : goal.invariant-loop-i
 invariant-loop-i l = FlowsFrom asymmetric (corridor_of l.table l.state) l.demand l.n l.sheet l.i
-
-abbrev pub decreases-loop-i : goal.decreases-loop-i
-decreases-loop-i l = l.i
