@@ -2,34 +2,34 @@
 use Prim.Native.Nat.{ℕ, ◌+◌, ◌≤◌, ◌<◌}
 use mathlib.Core.Path.{◌≡◌, refl, sym, ◌∙◌}
 use mathlib.Core.List.{List, [], ◌∷◌, ◌++◌}
-use Rattle.std.specs.Prelude.{Ok, Err}
+use Rattle.std.specs.Prelude.{Bool, Option, Some, None, Ok, Err}
+use Rattle.whole.specs.Search.{pick}
 use lib.ListN.{length, get_or, set, drop, drop_of_length-le}
 use Rattle.text_digits.proofs.Stores.{rest_of}
-use Rattle.text_digits.specs.Lines.{CR}
-use Rattle.text_scans.specs.Scans.{begin, feed, untouched}
-use Rattle.text_scans.specs.declared.Scan.{Scan}
+use Rattle.text_scans.specs.Scans.{begin, feed, completed}
+use Rattle.text_scans.specs.declared.LastField.{LastField}
 use Rattle.text_scans.specs.declared.Step.{Step}
 use Rattle.text_scans.specs.declared.Step.TheVariants.{More, Field, Complete, Breaks}
-use Rattle.program_files.specs.Files.{Standing, standing, counted, next_index, file_of, file_on, end_of, file_end}
+use Rattle.program_files.specs.Files.{Standing, File, standing, counted, next_index, file_of, file_on, end_of}
 use Rattle.program_files.specs.declared.Unread.{Unread}
 use Rattle.program_files.specs.declared.Unread.TheVariants.{Broken}
-
--- one byte
-
-pub byte_does : (fields byte : ℕ) (list : List ℕ) {n index : ℕ} {scan : Scan} {reading : Standing} {step s : Step} → reading ≡ standing n index scan → step ≡ feed scan byte fields → step ≡ s
-    → file_of s n index list (λ so then. (so, then)) ≡ file_on fields reading list (byte ∷ [])
-unfolding file_on
-byte_does fields byte list p q r = rw (p, ← q, r)
 
 pub stays_unread : (fields : ℕ) (unread : Unread) (list bytes : List ℕ) → file_on fields (Err unread) list bytes ≡ (Err unread, list)
 unfolding file_on
 stays_unread fields unread list [] = refl
 stays_unread fields unread list (byte ∷ rest) = refl
 
-pub end_does : (fields : ℕ) (list : List ℕ) {n index : ℕ} {scan : Scan} {reading : Standing} {step s : Step} → reading ≡ standing n index scan → step ≡ feed scan CR fields → step ≡ s
-    → end_of s (untouched scan) n index list ≡ file_end fields reading list
-unfolding file_end
-end_does fields list p q r = rw (p, ← q, r)
+-- the end of a file by the last field that it completes
+abbrev pub end_with : Option LastField → Bool → ℕ → ℕ → List ℕ → File × List ℕ
+end_with (Some last) between n index list = (Ok (counted n), set list index last.number)
+end_with None between n index list = (pick between (Ok n) (Err (Broken (counted n))), list)
+
+pub by_last_field : (step : Step) (between : Bool) (n index : ℕ) (list : List ℕ) → end_of step between n index list ≡ end_with (completed step) between n index list
+unfolding end_of
+by_last_field (More next) between n index list = refl
+by_last_field (Field field number next) between n index list = refl
+by_last_field Complete between n index list = refl
+by_last_field Breaks between n index list = refl
 
 -- piece after piece is all at once
 pub file_in_pieces : (fields : ℕ) (so : Standing) (list a b : List ℕ) → file_on fields so list (a ++ b) ≡ file_on fields (file_on fields so list a).0 (file_on fields so list a).1 b

@@ -8,14 +8,14 @@ ghost use Rattle.text_scans.specs.Scans.{begin, untouched};
 ghost use Rattle.refusals.specs.Checks.{answer};
 ghost use Rattle.layout.specs.Corridor.{corridor_of};
 ghost use Rattle.accept_rows.specs.Acceptance.{state_checks};
-ghost use Rattle.program_files.specs.Stops.{stop_of, broken, refused_in};
+ghost use Rattle.program_files.specs.Stops.{source_number, file_of_stop, broken, refused_in};
 ghost use Rattle.program_files.specs.Files.{counted, next_index, standing, file_on, file_end, cells_found, state_found, accepted_then, demand_lost};
 
 use refusals::Refusal;
 use text_scans::{Scan, Step};
 
 // How far the records of a file are read: so many are complete, the next number goes to this index of the list, and the reading stands here.
-#[derive(Clone, Copy)]
+#[derive(Clone, Copy, Debug, PartialEq, Eq)]
 pub struct Reading {
     pub records: usize,
     pub index: usize,
@@ -31,13 +31,45 @@ pub enum Unread {
     Lost,
 }
 
-// A refusal's line, which any number, place and file may stand in.
-#[derive(Clone, Copy)]
+// The files, in the order in which they are read.
+#[derive(Clone, Copy, Debug, PartialEq, Eq)]
+pub enum Source {
+    Cells,
+    State,
+    Demand,
+}
+
+impl Source {
+    // As a refusal's line numbers it.
+    pub fn number(self) -> u32
+        ensures { result ≡ source_number self }
+    {
+        match self {
+            Source::Cells => 1,
+            Source::State => 2,
+            Source::Demand => 3,
+        }
+    }
+}
+
+// What a refusal's line says: the period that is tried, the refusal, and the file of a broken record or a missing file.
+#[derive(Clone, Copy, Debug, PartialEq, Eq)]
 pub struct Stop {
     pub period: usize,
-    pub place: usize,
-    pub number: u32,
-    pub file: u32,
+    pub refusal: Refusal,
+    pub source: Option<Source>,
+}
+
+impl Stop {
+    // The number of the file, or 0.
+    pub fn file(self) -> u32
+        ensures { result ≡ file_of_stop self }
+    {
+        match self.source {
+            Some(source) => source.number(),
+            None => 0,
+        }
+    }
 }
 
 // One more, where there is a larger number.
@@ -141,7 +173,7 @@ fn unfinished(records: usize, scan: Scan) -> Result<usize, Unread>
 }
 
 // The file ends. A record that ends with it is complete, and its last number goes to the list.
-#[tactic(auto, unfolding(crate::specs::Files::file_end, crate::specs::Files::end_of))]
+#[tactic(auto, using(crate::proofs::FilePieces::by_last_field), unfolding(crate::specs::Files::file_end))]
 pub fn read_end(
     fields: usize,
     reading: Result<Reading, Unread>,
@@ -155,43 +187,35 @@ pub fn read_end(
         index,
         scan,
     } = reading?;
-    match text_scans::feed(scan, b'\r', fields) {
-        Step::Field {
-            field: _,
-            number,
-            next: _,
-        } => {
-            put(list, index, number);
+    match text_scans::last_field(scan, fields) {
+        Some(last) => {
+            put(list, index, last.number);
             Ok(counted(records))
         }
-        Step::More(_) | Step::Complete | Step::Breaks => unfinished(records, scan),
+        None => unfinished(records, scan),
     }
 }
 
-// The number and the place of a refusal, in a period and a file.
-fn stop_of(period: usize, refusal: Refusal, file: u32) -> Stop
-    ensures { result ≡ stop_of period refusal file }
+// Number 12 of a record of a file, or at place 0 of a file that is missing.
+pub fn broken(period: usize, place: usize, source: Source) -> Stop
+    ensures { result ≡ broken period place source }
 {
     Stop {
         period,
-        place: refusal.place(),
-        number: refusal.number(),
-        file,
+        refusal: Refusal::Record(place),
+        source: Some(source),
     }
-}
-
-// Number 12 of a record of a file.
-pub fn broken(period: usize, place: usize, file: u32) -> Stop
-    ensures { result ≡ broken period place file }
-{
-    stop_of(period, Refusal::Record(place), file)
 }
 
 // Any other number.
 pub fn refused_in(period: usize, refusal: Refusal) -> Stop
     ensures { result ≡ refused_in period refusal }
 {
-    stop_of(period, refusal, 0)
+    Stop {
+        period,
+        refusal,
+        source: None,
+    }
 }
 
 // What the cells come to: 12 for any of their records, then 1 on N.
@@ -202,8 +226,8 @@ pub fn cells_found(file: Result<usize, Unread>) -> Result<usize, Stop>
     match file {
         Ok(n) if 1 <= n && n <= 512 => Ok(n),
         Ok(_) => Err(refused_in(0, Refusal::Length)),
-        Err(Unread::Broken(place)) => Err(broken(0, place, 1)),
-        Err(Unread::Lost) => Err(broken(0, 0, 1)),
+        Err(Unread::Broken(place)) => Err(broken(0, place, Source::Cells)),
+        Err(Unread::Lost) => Err(broken(0, 0, Source::Cells)),
     }
 }
 
@@ -225,10 +249,10 @@ pub fn state_found(file: Result<usize, Unread>, table: &[u32], state: &[u32]) ->
 {
     match file {
         Ok(1) => accepted_then(table, state),
-        Ok(0) => Err(broken(0, 1, 2)),
-        Err(Unread::Lost) => Err(broken(0, 0, 2)),
-        Err(Unread::Broken(place)) if place <= 1 => Err(broken(0, 1, 2)),
-        Ok(_) | Err(Unread::Broken(_)) => Err(broken(0, 2, 2)),
+        Ok(0) => Err(broken(0, 1, Source::State)),
+        Err(Unread::Lost) => Err(broken(0, 0, Source::State)),
+        Err(Unread::Broken(place)) if place <= 1 => Err(broken(0, 1, Source::State)),
+        Ok(_) | Err(Unread::Broken(_)) => Err(broken(0, 2, Source::State)),
     }
 }
 
@@ -236,5 +260,5 @@ pub fn state_found(file: Result<usize, Unread>, table: &[u32], state: &[u32]) ->
 pub fn demand_lost(k: usize) -> Stop
     ensures { result ≡ demand_lost k }
 {
-    broken(k, 0, 3)
+    broken(k, 0, Source::Demand)
 }

@@ -1,50 +1,34 @@
 -- The calls of `follow`, `end` and the two lines, whatever their lists. Assumes nothing.
-use Prim.Native.Nat.{ℕ, ◌+◌, ◌-◌, ◌/◌, ◌≤◌, ◌<◌}
+use Prim.Native.Nat.{ℕ, ◌+◌, ◌-◌, ◌/◌}
 use mathlib.Core.Path.{◌≡◌, refl, sym, ap, ◌∙◌}
 use mathlib.Core.Bool.{Bool, true, false, ◌&&◌}
 use mathlib.Core.List.{List}
 use native.Mathlib.Omega.{arith}
-use borrow.Author.Tests.{leb-true, leb-false, eqb-true, le-leb, lt-leb, lt-ltb, le-ltb}
+use borrow.Author.Tests.{leb-true, leb-false, eqb-true, lt-ltb, le-ltb}
 use lib.Dec.{ltb, leb, eqb}
 use lib.ListN.{length}
+use Rattle.std.specs.Prelude.{Ok, Err}
 use Rattle.whole.proofs.Tests.{both_hold}
-use Rattle.refusals.specs.declared.Answer.{Answer}
-use Rattle.refusals.specs.declared.Answer.TheVariants.{Accepted, Refused}
 use Rattle.refusals.specs.declared.Refusal.{Refusal}
 use Rattle.refusals.specs.declared.Refusal.TheVariants.{Length}
-use Rattle.refusals.specs.Checks.{answer, lengths}
+use Rattle.refusals.specs.Checks.{answer, lengths, Answer, accepted}
 use Rattle.refusals.proofs.Answers.{length_fits_too, length_fails, accepted_passes}
 use Rattle.layout.specs.Layout.{demand_length}
 use Rattle.layout.specs.Sheet.{sheet_length}
 use Rattle.layout.specs.Corridor.{Corridor, cells_of}
-use Rattle.text_digits.specs.declared.Written.TheVariants.{To}
-use Rattle.text_digits.specs.Writes.{no_room}
 use Rattle.text_scans.specs.Scans.{ended}
 use Rattle.text_scans.specs.declared.Scan.{Scan}
 use Rattle.text_records.specs.Reads.{row_at_end}
 use Rattle.accept_rows.specs.Acceptance.{state_lengths_fit, state_numbers, state_checks}
 use Rattle.period.specs.Sharing.{Sharing}
-use Rattle.program_steps.specs.Lines.{line_room, line_written, after_line}
+use Rattle.program_steps.specs.Lines.{line_room}
 use Rattle.program_steps.specs.Turns.{Did, reads, breaks, refuses, passes, did, last_read, did_text, lines_of, demand_answer}
 use Rattle.program_steps.specs.Demand.{Followed, lines_room, follow_end, follow_lists_fit, follow_checks, if_accepted, run_of, Leaves}
 use Rattle.program_steps.specs.declared.Run.{Run}
 use Rattle.program_steps.specs.declared.Turn.{Turn}
-use Rattle.program_steps.specs.Private.{ReadyAt, Put, turn_of, Turned, written_to}
+use Rattle.program_steps.specs.Private.{ReadyAt, turn_of, Turned, written_to}
 
 -- a line at the start of an output
-
-pub no_line : (out text : List ℕ) → length out < line_room → (no_room ≡ line_written out text) × (out ≡ after_line out text)
-unfolding line_written after_line
-no_line out text short = (rw (lt-leb line_room (length out) short), rw (lt-leb line_room (length out) short))
-
-pub line_put : (out text : List ℕ) {to : ℕ} {later : List ℕ} → line_room ≤ length out → Put text out 0 to later → (To to ≡ line_written out text) × (later ≡ after_line out text)
-unfolding line_written after_line
-line_put out text {to} has put =
-    let so_many : to ≡ length text = omega (arith, put.ends) in
-    (rw (le-leb line_room (length out) has) (ap To so_many), rw (le-leb line_room (length out) has) put.stores)
-
-pub no_room_lem : (n size at : ℕ) → size < at → false ≡ leb (lines_room n) (size - at)
-no_room_lem n size at past = sym (lt-leb (lines_room n) (size - at) (omega arith))
 
 -- as many whole lines as the room has, against a period's n + 1
 pub lines_told : (n room : ℕ) → ltb n (room / line_room) ≡ leb (lines_room n) room
@@ -63,7 +47,7 @@ lists_told n row sheet out of_row of-sheet has = let all : length out - 0 ≡ le
 
 -- r tells whether the row, the sheet and the output fit
 pub lists_refused : (c : Corridor) (row sheet out : List ℕ) {r : Bool} → r ≡ follow_lists_fit (cells_of c) row sheet out → r ≡ false
-    → Refused Length ≡ answer (follow_checks c row sheet out)
+    → Err Length ≡ answer (follow_checks c row sheet out)
 unfolding follow_checks
 lists_refused c row sheet out e fails = length_fails (state_numbers c) (state_lengths_fit c) (sym e ∙ fails)
 
@@ -72,7 +56,7 @@ pub lists_left : (c : Corridor) (row sheet out : List ℕ) {r : Bool} {a : Answe
 unfolding follow_checks
 lists_left c row sheet out e fit found = found ∙ sym (length_fits_too (state_numbers c) (state_lengths_fit c) (sym e ∙ fit))
 
-pub lists_ready : (c : Corridor) (row sheet out : List ℕ) → answer (follow_checks c row sheet out) ≡ Accepted → ReadyAt c row sheet out 0
+pub lists_ready : (c : Corridor) (row sheet out : List ℕ) → answer (follow_checks c row sheet out) ≡ accepted → ReadyAt c row sheet out 0
 unfolding follow_checks follow_lists_fit
 lists_ready c row sheet out e =
     let of_row = eqb (length row) (demand_length (cells_of c)) in
@@ -94,11 +78,7 @@ lists_ready c row sheet out e =
     }
 
 module _ {a : Answer} (row : List ℕ) (c : Corridor) (sheet : List ℕ) (f : Followed) {given : ℕ} {out : List ℕ} where
-  pub accepted_leaves : {run : Run} {row_left : List ℕ} {corridor_left : Corridor} {sheet_left out_left : List ℕ} → a ≡ Accepted
-      → Leaves f given out run row_left corridor_left sheet_left out_left → Leaves (if_accepted a row c sheet f) given out run row_left corridor_left sheet_left out_left
-  accepted_leaves accepted left = rw accepted left
-
-  pub refused_leaves : {refusal : Refusal} → a ≡ Refused refusal → Leaves (if_accepted a row c sheet f) given out (Run.Refused refusal) row c sheet out
+  pub refused_leaves : {refusal : Refusal} → a ≡ Err refusal → Leaves (if_accepted a row c sheet f) given out (Err refusal) row c sheet out
   unfolding run_of
   refused_leaves e = rw e (record { answered = refl; leaves_row = refl; leaves_corridor = refl; leaves_sheet = refl; writes = refl })
 
@@ -109,11 +89,11 @@ pub end_leaves : (way : Sharing) (k : ℕ) (scan : Scan) (row : List ℕ) {c : C
     → row_left ≡ row_at_end (length row) scan row
     → Turned way (did (last_read (ended scan (length row))) (demand_answer c row_left)) k c row_left sheet out 0 turn corridor_left sheet_left out_left
     → to ≡ length (did_text k (lines_of way k c row_left) (did (last_read (ended scan (length row))) (demand_answer c row_left)))
-    → Leaves (follow_end way k scan row c sheet) 0 out (Run.Over to) row_left corridor_left sheet_left out_left
+    → Leaves (follow_end way k scan row c sheet) 0 out (Ok (Run.Over to)) row_left corridor_left sheet_left out_left
 unfolding follow_end run_of
 end_leaves way k scan row fits read t e =
     rw (sym fits, sym read)
-    (record { answered = ap Run.Over e; leaves_row = refl; leaves_corridor = t.leaves_corridor; leaves_sheet = t.leaves_sheet; writes = t.writes })
+    (record { answered = ap (λ (m : ℕ). Ok (Run.Over m)) e; leaves_row = refl; leaves_corridor = t.leaves_corridor; leaves_sheet = t.leaves_sheet; writes = t.writes })
 
 -- where a turn ends
 pub turn_position : (d : Did) (n : ℕ) {turn : Turn} → turn ≡ turn_of d (0 + n) → written_to turn ≡ n

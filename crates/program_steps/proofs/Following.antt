@@ -4,13 +4,15 @@ use mathlib.Core.Path.{◌≡◌, refl, sym, ap, ◌∙◌}
 use mathlib.Core.Bool.{Bool, true, false}
 use mathlib.Core.List.{List, [], ◌∷◌, ◌++◌, append-nil, append_assoc}
 use native.Mathlib.Omega.{arith}
-use borrow.Author.Tests.{le-leb, leb-true}
+use borrow.Author.Tests.{le-leb}
 use lib.Dec.{leb}
 use lib.ListN.{length, set, drop, length-append, length-drop, drop_of_length-le}
 use lib.Seq.{sets, drop-drop}
+use Rattle.refusals.specs.declared.Refusal.{Refusal}
+use Rattle.std.specs.Prelude.{Ok, Err, Result}
+use Rattle.program_files.specs.declared.Source.{Source}
+use Rattle.refusals.specs.Checks.{Answer}
 use Rattle.whole.specs.Search.{pick}
-use Rattle.refusals.specs.declared.Answer.{Answer}
-use Rattle.refusals.specs.declared.Answer.TheVariants.{Accepted, Refused}
 use Rattle.layout.specs.Layout.{demand_length}
 use Rattle.layout.specs.Corridor.{Corridor, cells_of}
 use Rattle.text_digits.proofs.Stores.{stores_after}
@@ -38,9 +40,6 @@ use Rattle.program_steps.proofs.Turning.{ready_again}
 after_after : (a b : List ℕ) (f : Followed) → after a (after b f) ≡ after (a ++ b) f
 after_after a b f = ap (λ (t : List ℕ). record { how = f.how; row = f.row; corridor = f.corridor; sheet = f.sheet; text = t }) (sym (append_assoc a b f.text))
 
-pub room_after : (n size at : ℕ) → leb (lines_room n) (size - at) ≡ true → at + lines_room n ≤ size
-room_after n size at has = omega (arith, leb-true (lines_room n) (size - at) has)
-
 module _ (way : Sharing) where
   abbrev fields : Corridor → ℕ
   fields c = demand_length (cells_of c)
@@ -53,7 +52,7 @@ module _ (way : Sharing) where
   -- what following comes to, by what reading on in the bytes does
   unfoldable follow_did : ℕ → ℕ → List ℕ → Corridor → List ℕ → ℕ → List ℕ → Did → Followed
   follow_did room k row c sheet at bytes (reads scan) = silent (later k scan 0) row c sheet
-  follow_did room k row c sheet at bytes breaks = stopped (broken k k 3) row c sheet
+  follow_did room k row c sheet at bytes breaks = stopped (broken k k Source.Demand) row c sheet
   follow_did room k row c sheet at bytes (refuses why) = stopped (refused_in k why) row c sheet
   follow_did room k row c sheet at bytes (passes next) =
       after (lines_of way k c row)
@@ -66,8 +65,8 @@ module _ (way : Sharing) where
       (roomy (room - length (lines_of way k c row)) (counted k) begin row (corridor_after way c row) (sheet_of way c row) rest))
       ≡ follow_did room k row c sheet at (byte ∷ rest) (did_row a (at + 1))
   unfolding tried follow_did did_row
-  row_follows room k row c sheet at byte rest Accepted = let one : at + 1 - at ≡ suc zero = omega arith in rw one
-  row_follows room k row c sheet at byte rest (Refused why) = refl
+  row_follows room k row c sheet at byte rest (Ok done) = let one : at + 1 - at ≡ suc zero = omega arith in rw one
+  row_follows room k row c sheet at byte rest (Err why) = refl
 
   turn_follows : (room k at : ℕ) (scan : Scan) (row : List ℕ) (c : Corridor) (sheet bytes : List ℕ) → follow way room k scan row c sheet bytes
       ≡ follow_did room k (row_on (fields c) scan row bytes) c sheet at bytes (did (read_on (fields c) at scan bytes) (demand_answer c (row_on (fields c) scan row bytes)))
@@ -77,8 +76,8 @@ module _ (way : Sharing) where
     where
       on : (found : Read) (a : Answer) (now : List ℕ) → ((next : ℕ) → found ≡ Read.Record next → at + 1 < next)
           → follow_did room k now c sheet (at + 1) rest (did found a) ≡ follow_did room k now c sheet at (byte ∷ rest) (did found a)
-      on (Read.Record next) Accepted now past = let one_less : next - at ≡ suc (next - (at + 1)) = omega (arith, past next refl) in rw one_less
-      on (Read.Record next) (Refused why) now past = refl
+      on (Read.Record next) (Ok done) now past = let one_less : next - at ≡ suc (next - (at + 1)) = omega (arith, past next refl) in rw one_less
+      on (Read.Record next) (Err why) now past = refl
       on (Read.Part s) a now past = refl
       on Read.Broken a now past = refl
 
@@ -114,14 +113,14 @@ module _ (way : Sharing) where
         let has : lines_room (cells_of c₀) ≤ length out₀ = omega (arith, at_start_lem.room) in
         record { ready = at_start_lem.ready; lines = []; goes = rw (all, le-leb (lines_room (cells_of c₀)) (length out₀) has); so_many = refl; stores = refl }
 
-    leaves : (lines : List ℕ) (rest : Followed) {run : Run} {out : List ℕ} → whole ≡ after lines rest → run ≡ run_of rest.how (length chunk) (length lines + length rest.text) → out ≡ sets out₀ 0 (lines ++ rest.text)
+    leaves : (lines : List ℕ) (rest : Followed) {run : Result Run Refusal} {out : List ℕ} → whole ≡ after lines rest → run ≡ run_of rest.how (length chunk) (length lines + length rest.text) → out ≡ sets out₀ 0 (lines ++ rest.text)
         → Leaves whole (length chunk) out₀ run rest.row rest.corridor rest.sheet out
     leaves lines rest e answered writes =
         rw e (record { answered = rw (length-append lines rest.text) answered; leaves_row = refl; leaves_corridor = refl; leaves_sheet = refl; writes = writes })
 
     -- the output has no room for another period's lines
     pub full : {k : ℕ} {scan : Scan} {row : List ℕ} {c : Corridor} {sheet out : List ℕ} {from at : ℕ} → Following k scan row c sheet out from at → leb (lines_room (cells_of c)) (length out₀ - at) ≡ false → from < length chunk
-        → Leaves whole (length chunk) out₀ (On from k scan at) row c sheet out
+        → Leaves whole (length chunk) out₀ (Ok (On from k scan at)) row c sheet out
     unfolding run_of
     full {k} {scan} {row} {c} {sheet} {out} {from} {at} so none inside =
         let left : length chunk - length (drop from chunk) ≡ from = omega (arith, length-drop from chunk) in
@@ -130,7 +129,7 @@ module _ (way : Sharing) where
 
     -- the chunk is used up
     pub used_up : {k : ℕ} {scan : Scan} {row : List ℕ} {c : Corridor} {sheet out : List ℕ} {from at : ℕ} → Following k scan row c sheet out from at → length chunk ≤ from
-        → Leaves whole (length chunk) out₀ (On (length chunk) k scan at) row c sheet out
+        → Leaves whole (length chunk) out₀ (Ok (On (length chunk) k scan at)) row c sheet out
     unfolding run_of follow
     used_up {k} {scan} {row} {c} {sheet} {out} {from} {at} so past =
         let none : drop from chunk ≡ [] = drop_of_length-le chunk past in
@@ -168,13 +167,13 @@ module _ (way : Sharing) where
         turn_taken = rw (same_row, so.ready.row_fits) at t
 
         pub part_left : {next : Scan} {to : ℕ} → turn ≡ Turn.Part next to
-            → Leaves whole (length chunk) out₀ (On (length chunk) k next to) row'' corridor_left sheet_left out_left
+            → Leaves whole (length chunk) out₀ (Ok (On (length chunk) k next to)) row'' corridor_left sheet_left out_left
         unfolding follow_did did_text turn_of when_passed run_of
         part_left {next} {to} e = rw same_row (by turned goes_on turn_taken.answered turn_taken.leaves_corridor turn_taken.leaves_sheet turn_taken.writes)
           where
             by : (d : Did) → whole ≡ after so.lines (follow_did (length out₀ - at) k row' c sheet from (drop from chunk) d) → turn ≡ turn_of d (at + length (did_text k (lines_of way k c row') d))
                 → corridor_left ≡ when_passed d (corridor_after way c row') c → sheet_left ≡ when_passed d (sheet_of way c row') sheet → out_left ≡ sets out at (did_text k (lines_of way k c row') d)
-                → Leaves whole (length chunk) out₀ (On (length chunk) k next to) row' corridor_left sheet_left out_left
+                → Leaves whole (length chunk) out₀ (Ok (On (length chunk) k next to)) row' corridor_left sheet_left out_left
             by (reads s) f a es eh w =
                 let same_scan : s ≡ next = cc in
                 let to_is : to ≡ at + 0 = cc in
@@ -187,12 +186,12 @@ module _ (way : Sharing) where
             by (passes n) f a es eh w = absurd (let z : ◌≡◌ {A = ℕ} 0 1 = cc in omega arith)
 
         pub over_left : {to : ℕ} → turn ≡ Turn.Over to
-            → Leaves whole (length chunk) out₀ (Over to) row'' corridor_left sheet_left out_left
+            → Leaves whole (length chunk) out₀ (Ok (Over to)) row'' corridor_left sheet_left out_left
         unfolding follow_did did_text turn_of when_passed run_of
         over_left {to} e = rw same_row (by turned goes_on turn_taken.answered turn_taken.leaves_corridor turn_taken.leaves_sheet turn_taken.writes)
           where
             ended : (text : List ℕ) → whole ≡ after so.lines (record { how = over; row = row'; corridor = c; sheet = sheet; text = text }) → to ≡ at + length text → out_left ≡ sets out at text
-                → Leaves whole (length chunk) out₀ (Over to) row' c sheet out_left
+                → Leaves whole (length chunk) out₀ (Ok (Over to)) row' c sheet out_left
             ended text f to_is w =
                 let here : to ≡ length so.lines + length text = omega (arith, so.so_many, to_is) in
                 leaves so.lines (record { how = over; row = row'; corridor = c; sheet = sheet; text = text }) f (rw here refl)
@@ -200,9 +199,9 @@ module _ (way : Sharing) where
 
             by : (d : Did) → whole ≡ after so.lines (follow_did (length out₀ - at) k row' c sheet from (drop from chunk) d) → turn ≡ turn_of d (at + length (did_text k (lines_of way k c row') d))
                 → corridor_left ≡ when_passed d (corridor_after way c row') c → sheet_left ≡ when_passed d (sheet_of way c row') sheet → out_left ≡ sets out at (did_text k (lines_of way k c row') d)
-                → Leaves whole (length chunk) out₀ (Over to) row' corridor_left sheet_left out_left
+                → Leaves whole (length chunk) out₀ (Ok (Over to)) row' corridor_left sheet_left out_left
             by (reads s) f a es eh w = absurd (let z : ◌≡◌ {A = ℕ} 0 1 = cc in omega arith)
-            by breaks f a es eh w = let to_is : to ≡ at + length (stop_text (broken k k 3)) = cc in rw (es, eh) (ended (stop_text (broken k k 3)) f to_is w)
+            by breaks f a es eh w = let to_is : to ≡ at + length (stop_text (broken k k Source.Demand)) = cc in rw (es, eh) (ended (stop_text (broken k k Source.Demand)) f to_is w)
             by (refuses why) f a es eh w = let to_is : to ≡ at + length (stop_text (refused_in k why)) = cc in rw (es, eh) (ended (stop_text (refused_in k why)) f to_is w)
             by (passes n) f a es eh w = absurd (let z : ◌≡◌ {A = ℕ} 0 1 = cc in omega arith)
 

@@ -6,10 +6,9 @@ use mathlib.Core.List.{List, [], ◌∷◌, ◌++◌, append-nil, append_assoc}
 use native.Mathlib.Omega.{arith}
 use lib.Dec.{leb}
 use lib.ListN.{length, set, drop, length-drop, length-append}
+use Rattle.std.specs.Prelude.{Ok, Err}
 use Rattle.whole.specs.Search.{pick}
-use Rattle.refusals.specs.declared.Answer.{Answer}
-use Rattle.refusals.specs.declared.Answer.TheVariants.{Accepted, Refused}
-use Rattle.refusals.specs.Checks.{answer}
+use Rattle.refusals.specs.Checks.{answer, Answer}
 use Rattle.layout.specs.Layout.{demand_length}
 use Rattle.layout.specs.Corridor.{Corridor, cells_of}
 use Rattle.text_scans.specs.Scans.{begin, feed, ended}
@@ -80,9 +79,9 @@ module _ (way : Sharing) where
       by (More next) a has = within_read k (length rest) (length rest) (follow way room k next row c sheet rest).how (on room k next row c sheet)
       by (Field f v next) a has = within_read k (length rest) (length rest) (follow way room k next (set row f v) c sheet rest).how (on room k next (set row f v) c sheet)
       by Breaks a has = tt
-      by Complete (Refused why) has = tt
-      by Complete Accepted true = within_next k (length rest) (length rest) next_period.how (on (room - length lines) (counted k) begin row (corridor_after way c row) (sheet_of way c row))
-      by Complete Accepted false = (omega arith, omega (arith, counted_most k))
+      by Complete (Err why) has = tt
+      by Complete (Ok done) true = within_next k (length rest) (length rest) next_period.how (on (room - length lines) (counted k) begin row (corridor_after way c row) (sheet_of way c row))
+      by Complete (Ok done) false = (omega arith, omega (arith, counted_most k))
 
   pub follow_within : (room k : ℕ) (scan : Scan) (row : List ℕ) (c : Corridor) (sheet bytes : List ℕ) → Within k (length bytes) (length bytes) (follow way room k scan row c sheet bytes).how
   unfolding follow
@@ -92,20 +91,20 @@ module _ (way : Sharing) where
       (byte_within room k scan row c sheet byte rest (λ room k scan row c sheet. follow_within room k scan row c sheet rest))
 
   -- a call that goes on has read some byte, and none that was not given
-  pub call_reads : (k : ℕ) (scan : Scan) (row : List ℕ) (c : Corridor) (sheet out bytes : List ℕ) (written : ℕ) {read k' at : ℕ} {scan' : Scan} → On read k' scan' at ≡ run_of (follow_call way k scan row c sheet out bytes).how (length bytes) written
+  pub call_reads : (k : ℕ) (scan : Scan) (row : List ℕ) (c : Corridor) (sheet out bytes : List ℕ) (written : ℕ) {read k' at : ℕ} {scan' : Scan} → Ok (On read k' scan' at) ≡ run_of (follow_call way k scan row c sheet out bytes).how (length bytes) written
       → 0 < length bytes → (0 < read) × (read ≤ length bytes)
   unfolding run_of
   call_reads k scan row c sheet out [] written e some = absurd (omega arith)
   call_reads k scan row c sheet out (byte ∷ rest) written {read} e some = by (answer (follow_checks c row sheet out)) e
     where
-      read_some : (how : How) {k' at : ℕ} {scan' : Scan} → Within k (length rest) (suc (length rest)) how → On read k' scan' at ≡ run_of how (suc (length rest)) written → (0 < read) × (read ≤ suc (length rest))
+      read_some : (how : How) {k' at : ℕ} {scan' : Scan} → Within k (length rest) (suc (length rest)) how → Ok (On read k' scan' at) ≡ run_of how (suc (length rest)) written → (0 < read) × (read ≤ suc (length rest))
       read_some (later k'' s left) h e = let same : read ≡ suc (length rest) - left = cc in (omega (arith, h.0), omega (arith, h.0))
       read_some over h e = absurd (let z : ◌≡◌ {A = ℕ} 0 1 = cc in omega arith)
       read_some (refused why) h e = absurd h
 
-      by : (a : Answer) {k' at : ℕ} {scan' : Scan} → On read k' scan' at ≡ run_of (if_accepted a row c sheet (follow way (length out) k scan row c sheet (byte ∷ rest))).how (suc (length rest)) written → (0 < read) × (read ≤ suc (length rest))
-      by Accepted e = read_some (follow way (length out) k scan row c sheet (byte ∷ rest)).how (byte_within (length out) k scan row c sheet byte rest (λ room k scan row c sheet. follow_within room k scan row c sheet rest)) e
-      by (Refused why) e = absurd (let z : ◌≡◌ {A = ℕ} 0 1 = cc in omega arith)
+      by : (a : Answer) {k' at : ℕ} {scan' : Scan} → Ok (On read k' scan' at) ≡ run_of (if_accepted a row c sheet (follow way (length out) k scan row c sheet (byte ∷ rest))).how (suc (length rest)) written → (0 < read) × (read ≤ suc (length rest))
+      by (Ok done) e = read_some (follow way (length out) k scan row c sheet (byte ∷ rest)).how (byte_within (length out) k scan row c sheet byte rest (λ room k scan row c sheet. follow_within room k scan row c sheet rest)) e
+      by (Err why) e = absurd (let z : ◌≡◌ {A = ℕ} 0 1 = cc in omega arith)
 
   -- with one byte more before them, the same bytes are left
   same_onward : (k byte : ℕ) (rest more : List ℕ) (how : How) (row : List ℕ) (c : Corridor) → Within k (length rest) (length rest) how → onward how row c rest more ≡ onward how row c (byte ∷ rest) more
@@ -152,14 +151,14 @@ module _ (way : Sharing) where
       by (More next) a is has on period = on next row
       by (Field f v next) a is has on period = on next (set row f v)
       by Breaks a is has on period = sym (append-nil _)
-      by Complete (Refused why) is has on period = rw is (sym (append-nil _))
-      by Complete Accepted is true on period =
+      by Complete (Err why) is has on period = rw is (sym (append-nil _))
+      by Complete (Ok done) is true on period =
           let one : counted k ≡ k + 1 = counted_on k (omega arith) in
           rw is
           (ap (λ (m : ℕ). lines ++ sheet_text way m c' (records_on (fields c) begin row (rest ++ more))) (sym one)
           ∙ ap (λ (t : List ℕ). lines ++ t) period
           ∙ sym (append_assoc lines (follow way (room - length lines) (counted k) begin row c' sheet' rest).text _))
-      by Complete Accepted is false on period =
+      by Complete (Ok done) is false on period =
           let one : counted k ≡ k + 1 = counted_on k (omega arith) in
           let last : suc (length rest) - length rest ≡ suc zero = omega arith in
           rw (is, last, one, append-nil lines)
@@ -168,8 +167,8 @@ module _ (way : Sharing) where
   unfolding sheet_text periods_from last_record did_text did did_row
   end_writes k c row Nothing a e = refl
   end_writes k c row Cut a e = refl
-  end_writes k c row Last Accepted e = rw (sym e) (append-nil (lines_of way k c row))
-  end_writes k c row Last (Refused why) e = rw (sym e)
+  end_writes k c row Last (Ok done) e = rw (sym e) (append-nil (lines_of way k c row))
+  end_writes k c row Last (Err why) e = rw (sym e)
 
   -- any way of cutting the demand into chunks, and of following them in calls, writes the same
   pub follows_writes : {k : ℕ} {scan : Scan} {row : List ℕ} {c : Corridor} {sheet left : List ℕ} {more : List (List ℕ)} {out : List ℕ} → Follows way k scan row c sheet left more out

@@ -8,6 +8,9 @@ use borrow.Author.Tests.{eqb-true}
 use lib.Dec.{eqb}
 use lib.ListN.{length, take}
 use lib.Seq.{sets}
+use Rattle.std.specs.Prelude.{Ok, Err}
+use Rattle.program_files.specs.declared.Source.{Source}
+use Rattle.program_files.specs.declared.Unread.TheVariants.{Broken, Lost}
 use Rattle.whole.specs.Search.{pick}
 use Rattle.whole.proofs.Lists.{zeros-length}
 use Rattle.whole.specs.Lists.{zeros}
@@ -16,18 +19,12 @@ use Rattle.layout.specs.Layout.{cells, state_length, demand_length, table_length
 use Rattle.layout.specs.Corridor.{Corridor, corridor_of, cells_of}
 use Rattle.text_scans.specs.Scans.{begin}
 use Rattle.text_records.specs.Texts.{together}
-use Rattle.text_records.specs.Reads.{held, numbers}
-use Rattle.text_records.specs.declared.Text.{Text}
+use Rattle.text_records.specs.Reads.{held, numbers, Text}
 use Rattle.text_laws.proofs.Accepted.{accepted_count}
 use Rattle.accept_rows.specs.Acceptance.{state_checks}
 use Rattle.period.specs.Sharing.{Sharing}
 use Rattle.program_files.specs.Stops.{broken}
-use Rattle.program_files.specs.Files.{cells_found, state_found, accepted_then}
-use Rattle.program_files.specs.declared.File.{File}
-use Rattle.program_files.specs.declared.File.TheVariants.{Holds, BrokenAt, Lost}
-use Rattle.program_files.specs.declared.Found.{Found}
-use Rattle.program_files.specs.declared.Found.TheVariants.{Go, Halt}
-use Rattle.program_files.specs.declared.Reading.TheVariants.{On}
+use Rattle.program_files.specs.Files.{cells_found, state_found, accepted_then, File, Found, standing}
 use Rattle.program_files.proofs.Finding.{Cells, cells_told, state_told}
 use Rattle.program_steps.specs.Lines.{HEADER}
 use Rattle.program_steps.specs.Program.{Given, missing, text, text_file, file_given, numbers_given, records_on, sheet_text, demand_text, or_halt, simulated}
@@ -60,30 +57,30 @@ stored_whole (y ∷ l) (x ∷ xs) h = rw (sets_after x l xs 0) (ap (λ (rest : L
 pub read_is_given : (fields : ℕ) (list : List ℕ) (file : Chunked) → Short file → read_file fields list file ≡ (file_given fields (given file), sets list 0 (numbers_given fields (given file)))
 unfolding read_file held numbers
 read_is_given fields list absent short = refl
-read_is_given fields list (chunks pieces) short = rw (pieces_are_whole fields (On 0 0 begin) list pieces) (file_is_text fields 0 0 begin list (together pieces) (omega arith))
+read_is_given fields list (chunks pieces) short = rw (pieces_are_whole fields (standing 0 0 begin) list pieces) (file_is_text fields 0 0 begin list (together pieces) (omega arith))
 
 -- a file of n records has as many numbers as they have fields
-holds_numbers : (fields n : ℕ) (file : Given) → file_given fields file ≡ Holds n → length (numbers_given fields file) ≡ n * fields
+holds_numbers : (fields n : ℕ) (file : Given) → file_given fields file ≡ Ok n → length (numbers_given fields file) ≡ n * fields
 holds_numbers fields n missing e = absurd (let z : ◌≡◌ {A = ℕ} 0 1 = cc in omega arith)
 holds_numbers fields n (text bytes) e = accepted_count fields bytes n (by (held fields bytes) e)
   where
-    by : (found : Text) → text_file found ≡ Holds n → found ≡ Text.Holds n
-    by (Text.Holds m) e = let same : m ≡ n = cc in ap Text.Holds same
-    by (Text.Refused refusal) e = absurd (let z : ◌≡◌ {A = ℕ} 0 1 = cc in omega arith)
+    by : (found : Text) → text_file found ≡ Ok n → found ≡ Ok n
+    by (Ok m) e = let same : m ≡ n = cc in ap Ok same
+    by (Err refusal) e = absurd (let z : ◌≡◌ {A = ℕ} 0 1 = cc in omega arith)
 
 -- the state's numbers matter only where there is one record of them
-state_found_same : (file : File) (c d : Corridor) → (file ≡ Holds 1 → c ≡ d) → state_found file c ≡ state_found file d
+state_found_same : (file : File) (c d : Corridor) → (file ≡ Ok 1 → c ≡ d) → state_found file c ≡ state_found file d
 unfolding state_found
-state_found_same Lost c d same = refl
-state_found_same (BrokenAt place) c d same = refl
-state_found_same (Holds n) c d same = by (eqb n 1) refl
+state_found_same (Err Lost) c d same = refl
+state_found_same (Err (Broken place)) c d same = refl
+state_found_same (Ok n) c d same = by (eqb n 1) refl
   where
     found : Bool → Corridor → Found
-    found one x = pick (eqb n 0) (Halt (broken 0 1 2)) (pick one (accepted_then (answer (state_checks x))) (Halt (broken 0 2 2)))
+    found one x = pick (eqb n 0) (Err (broken 0 1 Source.State)) (pick one (accepted_then (answer (state_checks x))) (Err (broken 0 2 Source.State)))
 
     by : (one : Bool) → eqb n 1 ≡ one → found one c ≡ found one d
     by false e = refl
-    by true e = ap (found true) (same (ap Holds (eqb-true n 1 e)))
+    by true e = ap (found true) (same (ap Ok (eqb-true n 1 e)))
 
 -- The cells and the state that the steps go on with.
 
@@ -97,7 +94,7 @@ module _ (way : Sharing) (cells_file state_file : Chunked) (short : Short cells_
   cells_same : cells_found (cells_read cells_file).0 ≡ cells_found (file_given WIDTH (given cells_file))
   cells_same = ap (λ (p : File × List ℕ). cells_found p.0) cells_read_lem
 
-  module _ (n : ℕ) (go : cells_found (cells_read cells_file).0 ≡ Go n) where
+  module _ (n : ℕ) (go : cells_found (cells_read cells_file).0 ≡ Ok n) where
     told : Cells (file_given WIDTH (given cells_file)) n
     told = cells_told _ n (sym cells_same ∙ go)
 
@@ -125,7 +122,7 @@ module _ (way : Sharing) (cells_file state_file : Chunked) (short : Short cells_
     state_read_lem : state_read n state_file ≡ (file_given (state_length n) (given state_file), sets (zeros (state_length n)) 0 corridor_given.state)
     state_read_lem = read_is_given (state_length n) (zeros (state_length n)) state_file short'
 
-    corridor_is : file_given (state_length n) (given state_file) ≡ Holds 1 → corridor ≡ corridor_given
+    corridor_is : file_given (state_length n) (given state_file) ≡ Ok 1 → corridor ≡ corridor_given
     corridor_is one =
         let space = zeros (state_length n) in
         let as_many : length corridor_given.state ≡ length space = omega (arith, holds_numbers (state_length n) 1 (given state_file) one, zeros-length (state_length n)) in
@@ -144,14 +141,14 @@ module _ (way : Sharing) (cells_file state_file : Chunked) (short : Short cells_
     unfolding simulated or_halt
     after_cells demand_file e = ap (λ (rest : List ℕ). HEADER ++ rest) (e ∙ rw (sym cells_same ∙ go))
 
-    after_state : (demand_file : Chunked) (one : ℕ) {out : List ℕ} → state_answer n cells_file state_file ≡ Go one
+    after_state : (demand_file : Chunked) (one : ℕ) {out : List ℕ} → state_answer n cells_file state_file ≡ Ok one
         → out ≡ demand_text way corridor_given (given demand_file)
         → HEADER ++ out ≡ simulated way (given cells_file) (given state_file) (given demand_file)
     unfolding or_halt
     after_state demand_file one found e = after_cells demand_file (e ∙ rw (sym state_same ∙ found))
 
     -- the demand under the lists that were read is the demand under the numbers that are given
-    demand_same : (one : ℕ) (bytes : List ℕ) → state_answer n cells_file state_file ≡ Go one
+    demand_same : (one : ℕ) (bytes : List ℕ) → state_answer n cells_file state_file ≡ Ok one
         → sheet_text way 1 corridor (records_on (demand_length (cells_of corridor)) begin (zeros (demand_length n)) bytes) ≡ demand_text way corridor_given (text bytes)
     unfolding demand_text
     demand_same one bytes found =

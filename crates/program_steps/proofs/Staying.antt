@@ -5,9 +5,9 @@ use mathlib.Core.Bool.{Bool, true, false}
 use mathlib.Core.List.{List, [], ◌∷◌}
 use lib.Dec.{leb}
 use lib.ListN.{length, set, length-set}
+use Rattle.std.specs.Prelude.{Ok, Err}
+use Rattle.refusals.specs.Checks.{Answer, accepted}
 use Rattle.whole.specs.Search.{pick}
-use Rattle.refusals.specs.declared.Answer.{Answer}
-use Rattle.refusals.specs.declared.Answer.TheVariants.{Accepted, Refused}
 use Rattle.layout.specs.Layout.{demand_length}
 use Rattle.layout.specs.Corridor.{Corridor, cells_of}
 use Rattle.text_scans.specs.Scans.{begin, feed}
@@ -46,7 +46,7 @@ module _ {way : Sharing} (fair : Fair way) where
 
       by : (step : Step) (a : Answer) → demand_answer c row ≡ a → (has : Bool)
           → ((next : Scan) (now : List ℕ) → length now ≡ length row → Stays (follow way room k next now c sheet rest))
-          → (demand_answer c row ≡ Accepted → Stays (follow way (room - length lines) (counted k) begin row c' sheet' rest))
+          → (demand_answer c row ≡ accepted → Stays (follow way (room - length lines) (counted k) begin row c' sheet' rest))
           → Stays
           (follow_of step k row c sheet (λ next now. follow way room k next now c sheet rest)
           (tried a k row c sheet
@@ -55,6 +55,6 @@ module _ {way : Sharing} (fair : Fair way) where
       by (More next) a is has on period = on next row refl
       by (Field f v next) a is has on period = on next (set row f v) (length-set row f v)
       by Breaks a is has on period = ready
-      by Complete (Refused why) is has on period = ready
-      by Complete Accepted is true on period = period is
-      by Complete Accepted is false on period = moved ready refl fair is refl refl
+      by Complete (Err why) is has on period = ready
+      by Complete (Ok done) is true on period = period is
+      by Complete (Ok done) is false on period = moved ready refl fair is refl refl

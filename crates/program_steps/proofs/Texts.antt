@@ -9,6 +9,7 @@ use borrow.Author.Tests.{lt-ltb, ltb-false}
 use lib.Dec.{ltb}
 use lib.ListN.{length, set, length-set}
 use lib.Seq.{sets, set_out}
+use Rattle.program_files.specs.declared.Unread.TheVariants.{Broken}
 use Rattle.whole.specs.Search.{pick}
 use Rattle.text_digits.specs.Lines.{CR}
 use Rattle.text_scans.specs.Scans.{begin, feed, untouched, last_field, ended}
@@ -17,13 +18,10 @@ use Rattle.text_scans.specs.declared.Step.{Step}
 use Rattle.text_scans.specs.declared.Step.TheVariants.{More, Field, Complete, Breaks}
 use Rattle.text_scans.specs.declared.End.TheVariants.{Nothing, Cut}
 use Rattle.text_records.specs.Texts.{together}
-use Rattle.text_records.specs.Reads.{text_from, text_on, numbers_from, numbers_on, text_at_end}
-use Rattle.text_records.specs.declared.Text.{Text}
+use Rattle.text_records.specs.Reads.{text_from, text_on, numbers_from, numbers_on, text_at_end, Text}
 use Rattle.program_files.specs.Files as files
-use Rattle.program_files.specs.Files.{counted, next_index, file_of, file_on, file_end}
-use Rattle.program_files.specs.declared.Reading.{Reading}
-use Rattle.program_files.specs.declared.Reading.TheVariants.{On}
-use Rattle.program_files.proofs.FilePieces.{stays_broken, file_in_pieces}
+use Rattle.program_files.specs.Files.{counted, next_index, file_of, file_on, file_end, Standing, standing}
+use Rattle.program_files.proofs.FilePieces.{stays_unread, file_in_pieces}
 use Rattle.program_steps.specs.Program.{text_file}
 use Rattle.program_steps.specs.Steps.{pieces_on}
 
@@ -59,7 +57,7 @@ stored_on l i v xs = by (ltb i (length l)) refl
 
 -- the text ends
 end_is_text : (fields n index : ℕ) (scan : Scan) (list : List ℕ) → n < 18446744073709551615
-    → file_end fields (On n index scan) list ≡ (text_file (text_on fields n scan []), sets list index (numbers_on fields scan []))
+    → file_end fields (standing n index scan) list ≡ (text_file (text_on fields n scan []), sets list index (numbers_on fields scan []))
 unfolding file_end files.end_of text_on numbers_on numbers_from ended
 end_is_text fields n index scan list h = by (feed scan CR fields) (untouched scan)
   where
@@ -74,7 +72,7 @@ end_is_text fields n index scan list h = by (feed scan CR fields) (untouched sca
 
 -- a text of fewer than 2^64 bytes, from where the reading stands
 pub file_is_text : (fields n index : ℕ) (scan : Scan) (list bytes : List ℕ) → n + length bytes < 18446744073709551615
-    → file_end fields (file_on fields (On n index scan) list bytes).0 (file_on fields (On n index scan) list bytes).1
+    → file_end fields (file_on fields (standing n index scan) list bytes).0 (file_on fields (standing n index scan) list bytes).1
     ≡ (text_file (text_on fields n scan bytes), sets list index (numbers_on fields scan bytes))
 unfolding file_end file_on file_of text_on text_from numbers_on numbers_from
 file_is_text fields n index scan list [] h = end_is_text fields n index scan list (omega arith)
@@ -82,11 +80,11 @@ file_is_text fields n index scan list (byte ∷ rest) h =
     by (feed scan byte fields)
     (λ m i next l small. file_is_text fields m i next l rest small)
   where
-    Is : Reading → List ℕ → Text → List ℕ → Type 0
+    Is : Standing → List ℕ → Text → List ℕ → Type 0
     Is so l found stored = file_end fields (file_on fields so l rest).0 (file_on fields so l rest).1 ≡ (text_file found, stored)
 
     by : (step : Step)
-        → ((m i : ℕ) (next : Scan) (l : List ℕ) → m + length rest < 18446744073709551615 → Is (On m i next) l (text_on fields m next rest) (sets l i (numbers_on fields next rest)))
+        → ((m i : ℕ) (next : Scan) (l : List ℕ) → m + length rest < 18446744073709551615 → Is (standing m i next) l (text_on fields m next rest) (sets l i (numbers_on fields next rest)))
         → file_end fields (file_of step n index list (λ so then. file_on fields so then rest)).0 (file_of step n index list (λ so then. file_on fields so then rest)).1
         ≡ (text_file (text_from step (λ next. text_on fields n next rest) (text_on fields (n + 1) begin rest) n), sets list index (numbers_from step (λ next. numbers_on fields next rest) (numbers_on fields begin rest)))
     by (More next) is = is n index next list (omega arith)
@@ -94,10 +92,10 @@ file_is_text fields n index scan list (byte ∷ rest) h =
         is n (next_index (length list) index) next (set list index v) (omega arith)
         ∙ ap (λ (l : List ℕ). (text_file (text_on fields n next rest), l)) (stored_on list index v (numbers_on fields next rest))
     by Complete is = rw (counted_on n (omega arith)) (is (n + 1) index begin list (omega arith))
-    by Breaks is = rw (stays_broken fields (counted n) list rest) (rw (counted_on n (omega arith)))
+    by Breaks is = rw (stays_unread fields (Broken (counted n)) list rest) (rw (counted_on n (omega arith)))
 
 -- chunk after chunk is the whole text
-pub pieces_are_whole : (fields : ℕ) (so : Reading) (list : List ℕ) (pieces : List (List ℕ)) → pieces_on fields so list pieces ≡ file_on fields so list (together pieces)
+pub pieces_are_whole : (fields : ℕ) (so : Standing) (list : List ℕ) (pieces : List (List ℕ)) → pieces_on fields so list pieces ≡ file_on fields so list (together pieces)
 unfolding pieces_on file_on together
 pieces_are_whole fields so list [] = refl
 pieces_are_whole fields so list (piece ∷ rest) =

@@ -4,16 +4,16 @@ use mathlib.Core.Path.{◌≡◌, refl, sym, ap, ◌∙◌}
 use mathlib.Core.List.{List, []}
 use native.Mathlib.Omega.{arith}
 use lib.ListN.{length}
+use Rattle.std.specs.Prelude.{Ok, Err}
+use Rattle.program_files.specs.declared.Source.{Source}
+use Rattle.refusals.specs.Checks.{Answer, accepted}
 use Rattle.refusals.specs.declared.Refusal.{Refusal}
-use Rattle.refusals.specs.declared.Answer.{Answer}
-use Rattle.refusals.specs.declared.Answer.TheVariants.{Accepted, Refused}
 use Rattle.layout.specs.Corridor.{Corridor, corridor_of, cells_of}
 use Rattle.text_scans.specs.declared.Scan.{Scan}
 use Rattle.text_records.specs.Reads.{read_on}
 use Rattle.text_records.specs.declared.Read.{Read}
 use Rattle.text_records.specs.declared.Read.TheVariants.{Record, Broken}
 use Rattle.text_laws.proofs.Pieces.{reaches_on}
-use Rattle.accept_rows.proofs.Lengths.{state_length_lem, cells_most}
 use Rattle.period.specs.Sharing.{Sharing}
 use Rattle.period.specs.Period.{sheet_of, state_after, RowDone, corridor_after}
 use Rattle.period.specs.Fair.{Fair}
@@ -26,11 +26,11 @@ use Rattle.program_steps.specs.Lines.{period_text, stop_text}
 use Rattle.program_steps.specs.Turns.{Did, breaks, did_row, did, did_text, when_passed, lines_of, demand_answer}
 use Rattle.program_steps.specs.declared.Turn.{Turn}
 use Rattle.program_steps.specs.declared.Turn.TheVariants.{Period, Over}
-use Rattle.program_steps.specs.Private.{Put, turn_of, Turned, Ready, LinesFrom}
+use Rattle.program_steps.specs.Private.{Put, turn_of, Turned, Ready}
 
 module _ (way : Sharing) (k : ℕ) (c : Corridor) (row sheet out : List ℕ) (at : ℕ) {end : ℕ} {out_left : List ℕ} where
   -- the row is accepted, and its period is run
-  pub row_runs : (next : ℕ) {n : ℕ} {state_left sheet_left : List ℕ} → demand_answer c row ≡ Accepted → n ≡ cells_of c → RowDone way c row state_left sheet_left
+  pub row_runs : (next : ℕ) {n : ℕ} {state_left sheet_left : List ℕ} → demand_answer c row ≡ accepted → n ≡ cells_of c → RowDone way c row state_left sheet_left
       → Put (period_text k n state_left sheet_left) out at end out_left
       → Turned way (did_row (demand_answer c row) next) k c row sheet out at (Period next end) (corridor_of c.table state_left) sheet_left out_left
   unfolding did_row did_text turn_of when_passed
@@ -45,7 +45,7 @@ module _ (way : Sharing) (k : ℕ) (c : Corridor) (row sheet out : List ℕ) (at
       })
 
   -- the row is refused
-  pub row_stops : (next : ℕ) {refusal : Refusal} {stop : Stop} → demand_answer c row ≡ Refused refusal → stop ≡ refused_in k refusal → Put (stop_text stop) out at end out_left
+  pub row_stops : (next : ℕ) {refusal : Refusal} {stop : Stop} → demand_answer c row ≡ Err refusal → stop ≡ refused_in k refusal → Put (stop_text stop) out at end out_left
       → Turned way (did_row (demand_answer c row) next) k c row sheet out at (Over end) c sheet out_left
   unfolding did_row did_text turn_of when_passed
   row_stops next refused same put =
@@ -53,22 +53,12 @@ module _ (way : Sharing) (k : ℕ) (c : Corridor) (row sheet out : List ℕ) (at
       rw refused (record { answered = ap Over written.ends; leaves_corridor = refl; leaves_sheet = refl; writes = written.stores })
 
   -- a record that breaks
-  pub break_stops : {stop : Stop} → stop ≡ broken k k 3 → Put (stop_text stop) out at end out_left
+  pub break_stops : {stop : Stop} → stop ≡ broken k k Source.Demand → Put (stop_text stop) out at end out_left
       → Turned way breaks k c row sheet out at (Over end) c sheet out_left
   unfolding did_text turn_of when_passed
   break_stops same put =
       let written = rw same at put in
       record { answered = ap Over written.ends; leaves_corridor = refl; leaves_sheet = refl; writes = written.stores }
-
--- the lists that a period's lines come from, where their lengths are those of the lists of a run
-pub lines_from : {c : Corridor} {row sheet : List ℕ} → Ready c row sheet → {n : ℕ} {state_left sheet_left : List ℕ} → n ≡ cells_of c → length state_left ≡ length c.state → length sheet_left ≡ length sheet
-    → LinesFrom n state_left sheet_left
-lines_from {c} ready same state sheet =
-    record {
-      most = omega (arith, same, cells_most c ready.fits);
-      state_len = omega (arith, same, state, state_length_lem c ready.fits);
-      sheet_fits = omega (arith, same, sheet, ready.sheet_fits);
-    }
 
 -- nothing more is written
 pub nothing_written : (way : Sharing) (d : Did) (k : ℕ) (c : Corridor) (row sheet out : List ℕ) (at : ℕ) {turn : Turn} → did_text k (lines_of way k c row) d ≡ [] → turn ≡ turn_of d at
@@ -84,7 +74,7 @@ module _ {c : Corridor} {row₀ row sheet : List ℕ} (ready : Ready c row₀ sh
   still e f = rw (e, f) (record { fits = ready.fits; row_fits = same ∙ ready.row_fits; sheet_fits = ready.sheet_fits; accepted = ready.accepted })
 
   module _ {way : Sharing} (fair : Fair way) where
-    pub moved : {corridor_left : Corridor} {sheet_left : List ℕ} → demand_answer c row ≡ Accepted → corridor_left ≡ corridor_after way c row → sheet_left ≡ sheet_of way c row → Ready corridor_left row sheet_left
+    pub moved : {corridor_left : Corridor} {sheet_left : List ℕ} → demand_answer c row ≡ accepted → corridor_left ≡ corridor_after way c row → sheet_left ≡ sheet_of way c row → Ready corridor_left row sheet_left
     moved passed e f =
         rw (e, f)
         (record {
@@ -103,8 +93,8 @@ module _ {c : Corridor} {row₀ row sheet : List ℕ} (ready : Ready c row₀ sh
             → sheet_left ≡ when_passed (did found a) (sheet_of way c row) sheet → Ready corridor_left row sheet_left
         by (Read.Part scan) a is e f = still e f
         by Broken a is e f = still e f
-        by (Record next) Accepted is e f = moved is e f
-        by (Record next) (Refused refusal) is e f = still e f
+        by (Record next) (Ok done) is e f = moved is e f
+        by (Record next) (Err refusal) is e f = still e f
 
 -- and a period's record ends after where its reading began
 pub goes_onward : (fields from : ℕ) (scan : Scan) (bytes : List ℕ) (a : Answer) (at : ℕ) {turn : Turn} {next to : ℕ} → turn ≡ turn_of (did (read_on fields from scan bytes) a) at → turn ≡ Period next to → from < next
@@ -114,5 +104,5 @@ goes_onward fields from scan bytes a at {next = next} {to = to} e is = by (read_
     by : (found : Read) (b : Answer) → ((after : ℕ) → found ≡ Record after → from < after) → Period next to ≡ turn_of (did found b) at → from < next
     by (Read.Part s) b past e = absurd (let z : ◌≡◌ {A = ℕ} 0 1 = cc in omega arith)
     by Broken b past e = absurd (let z : ◌≡◌ {A = ℕ} 0 1 = cc in omega arith)
-    by (Record n) Accepted past e = let same : next ≡ n = cc in omega (arith, past n refl, same)
-    by (Record n) (Refused refusal) past e = absurd (let z : ◌≡◌ {A = ℕ} 0 1 = cc in omega arith)
+    by (Record n) (Ok done) past e = let same : next ≡ n = cc in omega (arith, past n refl, same)
+    by (Record n) (Err refusal) past e = absurd (let z : ◌≡◌ {A = ℕ} 0 1 = cc in omega arith)

@@ -1,12 +1,11 @@
 -- Rules, "The text and the program": the demand, followed byte after byte. A complete record has its period and its lines.
 -- Following stops where the bytes are used up, where the output has no room for another period's lines, and where a record is refused.
-use Rattle.std.specs.Prelude.{ℕ, ◌+◌, ◌-◌, ◌*◌, ◌≡◌, Bool, ◌&&◌, List, [], ◌∷◌, ◌++◌, leb, eqb, length, set}
+use Rattle.program_files.specs.declared.Source.{Source}
+use Rattle.std.specs.Prelude.{ℕ, ◌+◌, ◌-◌, ◌*◌, ◌≡◌, Bool, ◌&&◌, List, [], ◌∷◌, ◌++◌, leb, eqb, length, set, Ok, Err, Result}
 use Rattle.std.proofs.lemmas.List.Edits.{sets}
 use Rattle.whole.specs.Search.{pick}
 use Rattle.refusals.specs.declared.Refusal.{Refusal}
-use Rattle.refusals.specs.declared.Answer.{Answer}
-use Rattle.refusals.specs.declared.Answer.TheVariants.{Accepted, Refused}
-use Rattle.refusals.specs.Checks.{Check, answer, lengths}
+use Rattle.refusals.specs.Checks.{Check, answer, lengths, Answer}
 use Rattle.layout.specs.Layout.{demand_length}
 use Rattle.layout.specs.Sheet.{sheet_length}
 use Rattle.layout.specs.Corridor.{Corridor, cells_of}
@@ -53,15 +52,15 @@ after lines rest = record { how = rest.how; row = rest.row; corridor = rest.corr
 
 -- 6 and 7 of a complete record, then its period
 unfoldable pub tried : Answer → ℕ → List ℕ → Corridor → List ℕ → Followed → Followed
-tried Accepted k row c sheet period = period
-tried (Refused refusal) k row c sheet period = stopped (refused_in k refusal) row c sheet
+tried (Ok done) k row c sheet period = period
+tried (Err refusal) k row c sheet period = stopped (refused_in k refusal) row c sheet
 
 -- one byte: 12 comes before 6 and 7
 unfoldable pub follow_of : Step → ℕ → List ℕ → Corridor → List ℕ → (Scan → List ℕ → Followed) → Followed → Followed
 follow_of (More next) k row c sheet on complete = on next row
 follow_of (Field field number next) k row c sheet on complete = on next (set row field number)
 follow_of Complete k row c sheet on complete = complete
-follow_of Breaks k row c sheet on complete = stopped (broken k k 3) row c sheet
+follow_of Breaks k row c sheet on complete = stopped (broken k k Source.Demand) row c sheet
 
 -- the lines of a period of n cells take at most so many bytes
 abbrev pub lines_room : ℕ → ℕ
@@ -77,8 +76,8 @@ follow_checks c row sheet out = lengths (state_lengths_fit c && follow_lists_fit
 
 -- any call: lists that are refused stay as they came
 abbrev pub if_accepted : Answer → List ℕ → Corridor → List ℕ → Followed → Followed
-if_accepted Accepted row c sheet followed = followed
-if_accepted (Refused refusal) row c sheet followed = silent (refused refusal) row c sheet
+if_accepted (Ok done) row c sheet followed = followed
+if_accepted (Err refusal) row c sheet followed = silent (refused refusal) row c sheet
 
 module _ (way : Sharing) where
   -- from period k on, with room for so many bytes of lines
@@ -118,13 +117,13 @@ module _ (way : Sharing) where
   end_call k scan row c sheet out = if_accepted (answer (follow_checks c row sheet out)) row c sheet (follow_end k scan row c sheet)
 
 -- the answer, with so many bytes given and so many written
-unfoldable pub run_of : How → ℕ → ℕ → Run
-run_of (later k scan left) given written = Run.On (given - left) k scan written
-run_of over given written = Run.Over written
-run_of (refused refusal) given written = Run.Refused refusal
+unfoldable pub run_of : How → ℕ → ℕ → Result Run Refusal
+run_of (later k scan left) given written = Ok (Run.On (given - left) k scan written)
+run_of over given written = Ok (Run.Over written)
+run_of (refused refusal) given written = Err refusal
 
 -- what a call answers and leaves; its lines go to the start of the output
-pub record Leaves (followed : Followed) (given : ℕ) (out : List ℕ) (run : Run) (row_left : List ℕ) (corridor_left : Corridor) (sheet_left out_left : List ℕ) : Type 0 where
+pub record Leaves (followed : Followed) (given : ℕ) (out : List ℕ) (run : Result Run Refusal) (row_left : List ℕ) (corridor_left : Corridor) (sheet_left out_left : List ℕ) : Type 0 where
   pub answered : run ≡ run_of followed.how given (length followed.text)
   pub leaves_row : row_left ≡ followed.row
   pub leaves_corridor : corridor_left ≡ followed.corridor

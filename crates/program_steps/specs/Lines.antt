@@ -1,13 +1,14 @@
 -- Rules, "The text and the program": the lines that the run program writes. Each ends with CR LF.
-use Rattle.std.specs.Prelude.{ℕ, ◌+◌, List, [], ◌∷◌, ◌++◌, leb, length}
+use Rattle.program_files.specs.Stops.{file_of_stop}
+use Rattle.refusals.specs.Refusals.{number_of, place_of}
+use Rattle.refusals.specs.declared.Refusal.{Refusal}
+use Rattle.std.specs.Prelude.{ℕ, ◌+◌, List, [], ◌∷◌, ◌++◌, leb, length, Result, Ok}
 use Rattle.std.proofs.lemmas.List.Edits.{sets}
 use Rattle.whole.specs.Lists.{build}
 use Rattle.whole.specs.Search.{pick}
 use Rattle.layout.specs.Layout.{entry_queue, count_at}
 use Rattle.layout.specs.Sheet.{flow_in, off_flow_in, on_flow_in, mode_in}
 use Rattle.text_digits.specs.Lines.{LF, CR, line_text}
-use Rattle.text_digits.specs.declared.Written.{Written}
-use Rattle.text_digits.specs.declared.Written.TheVariants.{To}
 use Rattle.text_digits.specs.Writes.{no_room}
 use Rattle.text_records.specs.Texts.{text_of}
 use Rattle.program_files.specs.declared.Stop.{Stop}
@@ -32,7 +33,7 @@ period_text k n state sheet = line_text (entry_record k state sheet) ++ text_of 
 
 -- the line that ends the program with a refusal: period being tried, place, number, file, 0, 0, 2
 abbrev pub stop_record : Stop → List ℕ
-stop_record stop = stop.period ∷ stop.place ∷ stop.number ∷ stop.file ∷ 0 ∷ 0 ∷ 2 ∷ []
+stop_record stop = stop.period ∷ place_of stop.refusal ∷ number_of stop.refusal ∷ file_of_stop stop ∷ 0 ∷ 0 ∷ 2 ∷ []
 
 unfoldable pub stop_text : Stop → List ℕ
 stop_text stop = line_text (stop_record stop)
@@ -42,8 +43,8 @@ abbrev pub line_room : ℕ
 line_room = 149
 
 -- a line at the start of an output, where that has room for the longest
-unfoldable pub line_written : List ℕ → List ℕ → Written
-line_written out text = pick (leb line_room (length out)) (To (length text)) no_room
+unfoldable pub line_written : List ℕ → List ℕ → Result ℕ Refusal
+line_written out text = pick (leb line_room (length out)) (Ok (length text)) no_room
 
 unfoldable pub after_line : List ℕ → List ℕ → List ℕ
 after_line out text = pick (leb line_room (length out)) (sets out 0 text) out

@@ -3,8 +3,7 @@
 use Rattle.std.specs.Prelude.{ℕ, ◌+◌, ◌*◌, ◌≤◌, ◌≡◌, true, List, ◌++◌, length}
 use Rattle.std.proofs.lemmas.List.Edits.{sets}
 use Rattle.whole.specs.Lists.{build}
-use Rattle.refusals.specs.declared.Answer.TheVariants.{Accepted}
-use Rattle.refusals.specs.Checks.{answer}
+use Rattle.refusals.specs.Checks.{answer, accepted}
 use Rattle.layout.specs.Layout.{MOST, state_length, demand_length}
 use Rattle.layout.specs.Sheet.{sheet_length}
 use Rattle.layout.specs.Corridor.{Corridor, cells_of}
@@ -100,7 +99,7 @@ pub record Ready (c : Corridor) (row sheet : List ℕ) : Type 0 where
   pub fits : state_lengths_fit c ≡ true
   pub row_fits : length row ≡ demand_length (cells_of c)
   pub sheet_fits : length sheet ≡ sheet_length (cells_of c)
-  pub accepted : answer (state_numbers c) ≡ Accepted
+  pub accepted : answer (state_numbers c) ≡ accepted
 
 -- and with room for a period's lines after a position of the output
 pub record ReadyAt (c : Corridor) (row sheet out : List ℕ) (at : ℕ) : Type 0 where

@@ -1,9 +1,10 @@
 -- Rules, "The text and the program": the whole run program, from three files to the output.
-use Rattle.std.specs.Prelude.{ℕ, ◌+◌, List, [], ◌∷◌, ◌++◌, set}
+use Rattle.program_files.specs.declared.Source.{Source}
+use Rattle.program_files.specs.declared.Unread.TheVariants.{Broken, Lost}
+use Rattle.refusals.specs.Checks.{Answer}
+use Rattle.std.specs.Prelude.{ℕ, ◌+◌, List, [], ◌∷◌, ◌++◌, set, Ok, Err}
 use Rattle.whole.specs.Lists.{zeros}
 use Rattle.refusals.specs.Refusals.{place_of}
-use Rattle.refusals.specs.declared.Answer.{Answer}
-use Rattle.refusals.specs.declared.Answer.TheVariants.{Accepted, Refused}
 use Rattle.layout.specs.Layout.{WIDTH, state_length, demand_length}
 use Rattle.layout.specs.Corridor.{Corridor, corridor_of, cells_of}
 use Rattle.text_scans.specs.Scans.{begin, feed, ended}
@@ -12,16 +13,11 @@ use Rattle.text_scans.specs.declared.Step.{Step}
 use Rattle.text_scans.specs.declared.Step.TheVariants.{More, Field, Complete, Breaks}
 use Rattle.text_scans.specs.declared.End.{End}
 use Rattle.text_scans.specs.declared.End.TheVariants.{Nothing, Last, Cut}
-use Rattle.text_records.specs.Reads.{held, numbers, row_at_end}
-use Rattle.text_records.specs.declared.Text.{Text}
+use Rattle.text_records.specs.Reads.{held, numbers, row_at_end, Text}
 use Rattle.period.specs.Sharing.{Sharing}
 use Rattle.period.specs.Period.{corridor_after}
 use Rattle.program_files.specs.Stops.{broken, refused_in}
-use Rattle.program_files.specs.Files.{cells_found, state_found, demand_lost}
-use Rattle.program_files.specs.declared.File.{File}
-use Rattle.program_files.specs.declared.File.TheVariants.{Holds, BrokenAt, Lost}
-use Rattle.program_files.specs.declared.Found.{Found}
-use Rattle.program_files.specs.declared.Found.TheVariants.{Go, Halt}
+use Rattle.program_files.specs.Files.{cells_found, state_found, demand_lost, File, Found}
 use Rattle.program_steps.specs.Lines.{HEADER, stop_text}
 use Rattle.program_steps.specs.Turns.{demand_answer, lines_of}
 
@@ -32,11 +28,11 @@ pub data Given : Type 0 where
 
 -- what a file of records of so many fields is found to be, and its numbers
 abbrev pub text_file : Text → File
-text_file (Text.Holds n) = Holds n
-text_file (Text.Refused refusal) = BrokenAt (place_of refusal)
+text_file (Ok n) = Ok n
+text_file (Err refusal) = Err (Broken (place_of refusal))
 
 abbrev pub file_given : ℕ → Given → File
-file_given fields missing = Lost
+file_given fields missing = Err Lost
 file_given fields (text bytes) = text_file (held fields bytes)
 
 abbrev pub numbers_given : ℕ → Given → List ℕ
@@ -66,19 +62,19 @@ records_on fields scan row (byte ∷ rest) = records_from (feed scan byte fields
 
 -- the lines of a period, then those after it; where its record is refused, that refusal's line
 unfoldable pub periods_from : ℕ → Answer → List ℕ → List ℕ → List ℕ
-periods_from k Accepted lines rest = lines ++ rest
-periods_from k (Refused refusal) lines rest = stop_text (refused_in k refusal)
+periods_from k (Ok done) lines rest = lines ++ rest
+periods_from k (Err refusal) lines rest = stop_text (refused_in k refusal)
 
 -- go on where nothing is refused, else end with the refusal's line
 unfoldable pub or_halt : Found → (ℕ → List ℕ) → List ℕ
-or_halt (Go n) on = on n
-or_halt (Halt stop) on = stop_text stop
+or_halt (Ok n) on = on n
+or_halt (Err stop) on = stop_text stop
 
 module _ (way : Sharing) where
   -- the lines of the periods from k on, one for each record; a refused record ends them with its line
   unfoldable pub sheet_text : ℕ → Corridor → Records → List ℕ
   sheet_text k c end = []
-  sheet_text k c break = stop_text (broken k k 3)
+  sheet_text k c break = stop_text (broken k k Source.Demand)
   sheet_text k c (then row rest) = periods_from k (demand_answer c row) (lines_of way k c row) (sheet_text (k + 1) (corridor_after way c row) rest)
 
   -- the demand, under an accepted table and state

@@ -1,6 +1,7 @@
 -- The steps as the program's loops of system calls take them: files come in chunks of any size, and what a call writes is passed on.
 -- What a step does is what the function behind it promises; `proofs/Simulated` shows that any run of them writes what `Program` says.
-use Rattle.std.specs.Prelude.{ℕ, ◌-◌, ◌≡◌, List, [], ◌∷◌, ◌++◌, length, take, drop}
+use Rattle.program_files.specs.declared.Unread.TheVariants.{Lost}
+use Rattle.std.specs.Prelude.{ℕ, ◌-◌, ◌≡◌, List, [], ◌∷◌, ◌++◌, length, take, drop, Ok, Err}
 use Rattle.whole.specs.Lists.{zeros}
 use Rattle.layout.specs.Layout.{WIDTH, MOST, table_length, state_length, demand_length}
 use Rattle.layout.specs.Sheet.{sheet_length}
@@ -9,14 +10,8 @@ use Rattle.text_scans.specs.Scans.{begin}
 use Rattle.text_scans.specs.declared.Scan.{Scan}
 use Rattle.text_records.specs.Texts.{together}
 use Rattle.period.specs.Sharing.{Sharing}
-use Rattle.program_files.specs.Files.{file_on, file_end, cells_found, state_found, demand_lost}
+use Rattle.program_files.specs.Files.{file_on, file_end, cells_found, state_found, demand_lost, File, Found, Standing, standing}
 use Rattle.program_files.specs.declared.Stop.{Stop}
-use Rattle.program_files.specs.declared.Reading.{Reading}
-use Rattle.program_files.specs.declared.Reading.TheVariants.{On}
-use Rattle.program_files.specs.declared.File.{File}
-use Rattle.program_files.specs.declared.File.TheVariants.{Lost}
-use Rattle.program_files.specs.declared.Found.{Found}
-use Rattle.program_files.specs.declared.Found.TheVariants.{Go, Halt}
 use Rattle.program_steps.specs.Lines.{HEADER, stop_text}
 use Rattle.program_steps.specs.Demand.{Followed, later, over, follow, follow_end}
 use Rattle.program_steps.specs.Program.{Given, missing, text}
@@ -31,14 +26,14 @@ given absent = missing
 given (chunks pieces) = text (together pieces)
 
 -- `read_on` for each chunk, then `read_end`
-unfoldable pub pieces_on : ℕ → Reading → List ℕ → List (List ℕ) → Reading × List ℕ
+unfoldable pub pieces_on : ℕ → Standing → List ℕ → List (List ℕ) → Standing × List ℕ
 pieces_on fields so list [] = (so, list)
 pieces_on fields so list (piece ∷ rest) = pieces_on fields (file_on fields so list piece).0 (file_on fields so list piece).1 rest
 
 unfoldable pub read_file : ℕ → List ℕ → Chunked → File × List ℕ
-read_file fields list absent = (Lost, list)
+read_file fields list absent = (Err Lost, list)
 read_file fields list (chunks pieces) =
-    let whole = pieces_on fields (On 0 0 begin) list pieces in
+    let whole = pieces_on fields (standing 0 0 begin) list pieces in
     file_end fields whole.0 whole.1
 
 -- `follow` for what is left of a chunk of the demand, with room for any number of bytes, and on to the next chunk; `end` at the end. In
@@ -70,14 +65,14 @@ state_answer n cells_file state_file = state_found (state_read n state_file).0 (
 
 -- `main`: the cells into a list of 512, the state into a list of its length, then the demand
 pub data Writes (way : Sharing) (cells_file state_file : Chunked) : Chunked → List ℕ → Type 0 where
-  cells_stop : {demand_file : Chunked} (stop : Stop) → cells_found (cells_read cells_file).0 ≡ Halt stop → Writes way cells_file state_file demand_file (HEADER ++ stop_text stop)
-  state_stop : {demand_file : Chunked} (n : ℕ) (stop : Stop) → cells_found (cells_read cells_file).0 ≡ Go n
-      → state_answer n cells_file state_file ≡ Halt stop
+  cells_stop : {demand_file : Chunked} (stop : Stop) → cells_found (cells_read cells_file).0 ≡ Err stop → Writes way cells_file state_file demand_file (HEADER ++ stop_text stop)
+  state_stop : {demand_file : Chunked} (n : ℕ) (stop : Stop) → cells_found (cells_read cells_file).0 ≡ Ok n
+      → state_answer n cells_file state_file ≡ Err stop
       → Writes way cells_file state_file demand_file (HEADER ++ stop_text stop)
-  demand_stop : (n one : ℕ) → cells_found (cells_read cells_file).0 ≡ Go n
-      → state_answer n cells_file state_file ≡ Go one
+  demand_stop : (n one : ℕ) → cells_found (cells_read cells_file).0 ≡ Ok n
+      → state_answer n cells_file state_file ≡ Ok one
       → Writes way cells_file state_file absent (HEADER ++ stop_text (demand_lost 0))
-  runs : {pieces : List (List ℕ)} {out : List ℕ} (n one : ℕ) → cells_found (cells_read cells_file).0 ≡ Go n
-      → state_answer n cells_file state_file ≡ Go one
+  runs : {pieces : List (List ℕ)} {out : List ℕ} (n one : ℕ) → cells_found (cells_read cells_file).0 ≡ Ok n
+      → state_answer n cells_file state_file ≡ Ok one
       → Follows way 1 begin (zeros (demand_length n)) (corridor_read n cells_file state_file) (zeros (sheet_length n)) [] pieces out
       → Writes way cells_file state_file (chunks pieces) (HEADER ++ out)

@@ -1,9 +1,8 @@
 -- Rules, "The text and the program": a demand record is read, checked, run and written, one for each period.
-use Rattle.std.specs.Prelude.{ℕ, List, []}
+use Rattle.program_files.specs.declared.Source.{Source}
+use Rattle.std.specs.Prelude.{ℕ, List, [], Ok, Err}
 use Rattle.refusals.specs.declared.Refusal.{Refusal}
-use Rattle.refusals.specs.declared.Answer.{Answer}
-use Rattle.refusals.specs.declared.Answer.TheVariants.{Accepted, Refused}
-use Rattle.refusals.specs.Checks.{answer}
+use Rattle.refusals.specs.Checks.{answer, Answer}
 use Rattle.layout.specs.Corridor.{Corridor, cells_of}
 use Rattle.text_scans.specs.Scans.{begin}
 use Rattle.text_scans.specs.declared.Scan.{Scan}
@@ -30,8 +29,8 @@ pub data Did : Type 0 where
 
 -- a complete record, by its answer
 unfoldable pub did_row : Answer → ℕ → Did
-did_row Accepted next = passes next
-did_row (Refused refusal) next = refuses refusal
+did_row (Ok done) next = passes next
+did_row (Err refusal) next = refuses refusal
 
 -- 12 comes before 6 and 7
 unfoldable pub did : Read → Answer → Did
@@ -48,7 +47,7 @@ last_read Cut = Broken
 -- what is written in period k, whose lines these would be
 unfoldable pub did_text : ℕ → List ℕ → Did → List ℕ
 did_text k lines (reads scan) = []
-did_text k lines breaks = stop_text (broken k k 3)
+did_text k lines breaks = stop_text (broken k k Source.Demand)
 did_text k lines (refuses refusal) = stop_text (refused_in k refusal)
 did_text k lines (passes next) = lines
 

@@ -13,17 +13,15 @@ use crate::{Run, Turn};
 use layout::sheet::sheet_length;
 use layout::{cells, demand_length};
 use program_files::counted;
-use refusals::{Answer, Refusal};
+use refusals::Refusal;
 use text_scans::Scan;
 
 // Whether the lines of a period of n cells have room after a position.
+#[tactic(auto, using(crate::proofs::Calls::lines_told))]
 fn has_room(size: usize, at: usize, n: usize) -> bool
     ensures { result ≡ leb (lines_room n) (size - at) }
 {
-    if size < at {
-        return false;
-    }
-    n < (size - at) / LINE_ROOM
+    n < size.saturating_sub(at) / LINE_ROOM
 }
 
 // Number 1 of a row, a sheet and an output under a table of n cells.
@@ -35,20 +33,19 @@ fn lists_fit(n: usize, row: &[u32], sheet: &[u32], out: &[u8]) -> bool
 }
 
 // Whether the lists are those of a run: numbers 1 to 5.
-fn accept_lists(table: &[u32], state: &[u32], row: &[u32], sheet: &[u32], out: &[u8]) -> Answer
+fn accept_lists(
+    table: &[u32],
+    state: &[u32],
+    row: &[u32],
+    sheet: &[u32],
+    out: &[u8],
+) -> Result<(), Refusal>
     ensures { result ≡ answer (follow_checks (corridor_of table.now state.now) row.now sheet.now out.now) }
 {
     if !lists_fit(cells(table), row, sheet, out) {
-        return Answer::Refused(Refusal::Length);
+        return Err(Refusal::Length);
     }
     accept_rows::accept_state(table, state)
-}
-
-// The demand goes on later.
-fn stands(read: usize, k: usize, scan: Scan, at: usize) -> Run
-    ensures { result ≡ Run.On read k scan at }
-{
-    Run::On { read, k, scan, at }
 }
 
 // Follows the demand with the lists of a run.
@@ -63,7 +60,7 @@ fn follow_run(
     out: &mut [u8],
 ) -> Run
     requires { ReadyAt (corridor_of table.now state.old) row.old sheet.old out.old 0 }
-    ensures { Leaves (follow asymmetric (length out.old) k scan row.old (corridor_of table.now state.old) sheet.old chunk.now) (length chunk.now) out.old result row.new (corridor_of table.now state.new) sheet.new out.new }
+    ensures { Leaves (follow asymmetric (length out.old) k scan row.old (corridor_of table.now state.old) sheet.old chunk.now) (length chunk.now) out.old (Ok result) row.new (corridor_of table.now state.new) sheet.new out.new }
 {
     let n = cells(table);
     let mut k = k;
@@ -72,11 +69,22 @@ fn follow_run(
     let mut at = 0;
     while from < chunk.len() {
         if !has_room(out.len(), at, n) {
-            return stands(from, k, scan, at);
+            return Run::On {
+                read: from,
+                k,
+                scan,
+                at,
+            };
         }
-        let turn = turn(chunk, from, scan, k, table, state, row, sheet, out, at);
-        match turn {
-            Turn::Part { scan: next, at: to } => return stands(chunk.len(), k, next, to),
+        match turn(chunk, from, scan, k, table, state, row, sheet, out, at) {
+            Turn::Part { scan, at } => {
+                return Run::On {
+                    read: chunk.len(),
+                    k,
+                    scan,
+                    at,
+                };
+            }
             Turn::Period { next, at: to } => {
                 from = next;
                 at = to;
@@ -86,11 +94,17 @@ fn follow_run(
             Turn::Over(to) => return Run::Over(to),
         }
     }
-    stands(chunk.len(), k, scan, at)
+    Run::On {
+        read: chunk.len(),
+        k,
+        scan,
+        at,
+    }
 }
 
 // Follows the demand through a chunk of it from period k on: each record has its period and its lines, which go to the start of the
-// output. Table, state, row and sheet are those that the call before left.
+// output. Table, state, row and sheet are those that the call before left. Lists that are not those of a run, by number 1 to 5, stay as they are.
+#[tactic(auto, using(crate::proofs::Calls::lists_ready, crate::proofs::Calls::refused_leaves), unfolding(crate::specs::Demand::run_of))]
 pub fn follow(
     chunk: &[u8],
     k: usize,
@@ -100,14 +114,11 @@ pub fn follow(
     row: &mut [u32],
     sheet: &mut [u32],
     out: &mut [u8],
-) -> Run
+) -> Result<Run, Refusal>
     ensures { Leaves (follow_call asymmetric k scan row.old (corridor_of table.now state.old) sheet.old out.old chunk.now) (length chunk.now) out.old result row.new (corridor_of table.now state.new) sheet.new out.new }
 {
-    let found = accept_lists(table, state, row, sheet, out);
-    if let Answer::Refused(refusal) = found {
-        return Run::Refused(refusal);
-    }
-    follow_run(chunk, k, scan, table, state, row, sheet, out)
+    accept_lists(table, state, row, sheet, out)?;
+    Ok(follow_run(chunk, k, scan, table, state, row, sheet, out))
 }
 
 // The demand ends, with the lists of a run.
@@ -121,7 +132,7 @@ fn end_run(
     out: &mut [u8],
 ) -> Run
     requires { ReadyAt (corridor_of table.now state.old) row.old sheet.old out.old 0 }
-    ensures { Leaves (follow_end asymmetric k scan row.old (corridor_of table.now state.old) sheet.old) 0 out.old result row.new (corridor_of table.now state.new) sheet.new out.new }
+    ensures { Leaves (follow_end asymmetric k scan row.old (corridor_of table.now state.old) sheet.old) 0 out.old (Ok result) row.new (corridor_of table.now state.new) sheet.new out.new }
 {
     let end = text_records::finish(scan, row);
     let turn = turn_of(last_read(end), k, table, state, row, sheet, out, 0);
@@ -129,6 +140,7 @@ fn end_run(
 }
 
 // The demand ends in period k: a record that ends with it has its period.
+#[tactic(auto, using(crate::proofs::Calls::lists_ready, crate::proofs::Calls::refused_leaves), unfolding(crate::specs::Demand::run_of))]
 pub fn end(
     k: usize,
     scan: Scan,
@@ -137,12 +149,9 @@ pub fn end(
     row: &mut [u32],
     sheet: &mut [u32],
     out: &mut [u8],
-) -> Run
+) -> Result<Run, Refusal>
     ensures { Leaves (end_call asymmetric k scan row.old (corridor_of table.now state.old) sheet.old out.old) 0 out.old result row.new (corridor_of table.now state.new) sheet.new out.new }
 {
-    let found = accept_lists(table, state, row, sheet, out);
-    if let Answer::Refused(refusal) = found {
-        return Run::Refused(refusal);
-    }
-    end_run(k, scan, table, state, row, sheet, out)
+    accept_lists(table, state, row, sheet, out)?;
+    Ok(end_run(k, scan, table, state, row, sheet, out))
 }

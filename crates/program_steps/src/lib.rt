@@ -7,11 +7,10 @@ pub mod demand;
 pub mod lines;
 mod turns;
 
-use refusals::Refusal;
 use text_scans::Scan;
 
 // What reading on in the demand comes to.
-#[derive(Clone, Copy)]
+#[derive(Clone, Copy, Debug, PartialEq, Eq)]
 pub enum Turn {
     // The chunk is used up: the next one goes on from here, and nothing is written after this position.
     Part { scan: Scan, at: usize },
@@ -22,7 +21,7 @@ pub enum Turn {
 }
 
 // What following the demand comes to. The lines that it writes stand at the start of the output.
-#[derive(Clone, Copy)]
+#[derive(Clone, Copy, Debug, PartialEq, Eq)]
 pub enum Run {
     // So many bytes of the chunk are read, period k is being tried, the reading stands here, and so many bytes are written. Where bytes of the
     // chunk are left, the output has no room for another period's lines.
@@ -34,6 +33,4 @@ pub enum Run {
     },
     // The program is over: so many bytes are written.
     Over(usize),
-    // The lists are not those of a run, by number 1 to 5, and nothing is changed.
-    Refused(Refusal),
 }

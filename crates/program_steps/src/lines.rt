@@ -8,69 +8,51 @@ use layout::sheet::*;
 use layout::*;
 use program_files::Stop;
 use refusals::Refusal;
-use text_digits::Written;
 
 // The most bytes of a line: seven numbers of at most 20 digits, each with a comma, and its end.
 pub(crate) const LINE_ROOM: usize = 149;
-
-fn wide(number: u32) -> u64
-    ensures { result ≡ number }
-{
-    number as u64
-}
-
-fn large(number: usize) -> u64
-    ensures { result ≡ number }
-{
-    number as u64
-}
 
 // Copies bytes to a position of the output.
 fn put_bytes(bytes: &[u8], out: &mut [u8], at: usize) -> usize
     requires { at + length bytes.now ≤ length out.old }
     ensures { Put bytes.now out.old at result out.new }
 {
-    let mut i = 0;
-    while i < bytes.len() {
-        out[at + i] = bytes[i];
-        i += 1;
-    }
-    at + i
+    out[at..at + bytes.len()].copy_from_slice(bytes);
+    at + bytes.len()
 }
 
 // The header, at the start of an output.
-pub fn header(out: &mut [u8]) -> Written
+#[tactic(auto, unfolding(crate::specs::Lines::line_written, crate::specs::Lines::after_line))]
+pub fn header(out: &mut [u8]) -> Result<usize, Refusal>
     ensures answer { result ≡ line_written out.old HEADER }
     ensures stores { out.new ≡ after_line out.old HEADER }
 {
     if out.len() < LINE_ROOM {
-        return Written::Refused(Refusal::Length);
+        return Err(Refusal::Length);
     }
-    Written::To(put_bytes(b"k,i,n,f,s,r,mode\r\n", out, 0))
+    Ok(put_bytes(b"k,i,n,f,s,r,mode\r\n", out, 0))
 }
 
 // A line of seven numbers.
+#[tactic(auto, using(text_digits::proofs::Lines::line_at_most), unfolding(text_digits::specs::Writes::written, text_digits::specs::Writes::after_writing))]
 fn put_line(numbers: &[u64], out: &mut [u8], at: usize) -> usize
     requires { LineFits numbers.now out.old at }
     ensures { PutLine (line_text numbers.now) out.old at result out.new }
 {
-    let written = text_digits::write_record(numbers, out, at);
-    match written {
-        Written::To(end) => end,
-        Written::Refused(_) => at,
-    }
+    text_digits::write_record(numbers, out, at).unwrap()
 }
 
 // A refusal's line.
+#[tactic(auto, unfolding(crate::specs::Lines::stop_text))]
 pub(crate) fn put_stop(stop: Stop, out: &mut [u8], at: usize) -> usize
     requires { at + line_room ≤ length out.old }
     ensures { Put (stop_text stop) out.old at result out.new }
 {
     let line = [
-        large(stop.period),
-        large(stop.place),
-        wide(stop.number),
-        wide(stop.file),
+        stop.period as u64,
+        stop.refusal.place() as u64,
+        u64::from(stop.refusal.number()),
+        u64::from(stop.file()),
         0,
         0,
         2,
@@ -79,14 +61,15 @@ pub(crate) fn put_stop(stop: Stop, out: &mut [u8], at: usize) -> usize
 }
 
 // The line that ends the program with a refusal, at the start of an output.
-pub fn stop_line(stop: Stop, out: &mut [u8]) -> Written
+#[tactic(auto, unfolding(crate::specs::Lines::line_written, crate::specs::Lines::after_line))]
+pub fn stop_line(stop: Stop, out: &mut [u8]) -> Result<usize, Refusal>
     ensures answer { result ≡ line_written out.old (stop_text stop) }
     ensures stores { out.new ≡ after_line out.old (stop_text stop) }
 {
     if out.len() < LINE_ROOM {
-        return Written::Refused(Refusal::Length);
+        return Err(Refusal::Length);
     }
-    Written::To(put_stop(stop, out, 0))
+    Ok(put_stop(stop, out, 0))
 }
 
 // The entry's line.
@@ -95,10 +78,10 @@ fn put_entry(k: usize, state: &[u32], sheet: &[u32], out: &mut [u8], at: usize) 
     ensures { PutLine (line_text (entry_record k state.now sheet.now)) out.old at result out.new }
 {
     let line = [
-        large(k),
+        k as u64,
         0,
-        wide(entry_queue(state)),
-        wide(flow_in(sheet, 0)),
+        u64::from(entry_queue(state)),
+        u64::from(flow_in(sheet, 0)),
         0,
         0,
         0,
@@ -107,15 +90,12 @@ fn put_entry(k: usize, state: &[u32], sheet: &[u32], out: &mut [u8], at: usize) 
 }
 
 // The digits of a period's number, at the start of a space for them.
+#[tactic(auto, using(text_digits::proofs::Digits::at_most_20), unfolding(text_digits::specs::Writes::written, text_digits::specs::Writes::after_writing))]
 fn period_digits(k: usize, space: &mut [u8]) -> usize
     requires { 20 ≤ length space.old }
     ensures { PutDigits k space.old result space.new }
 {
-    let written = text_digits::write_decimal(large(k), space, 0);
-    match written {
-        Written::To(end) => end,
-        Written::Refused(_) => 0,
-    }
+    text_digits::write_decimal(k as u64, space, 0).unwrap()
 }
 
 // A cell's line, under a period whose digits are given: they are written once for all of its lines.
@@ -132,20 +112,15 @@ fn put_cell(
     ensures { PutCell period.now n i state.now sheet.now out.old at result out.new }
 {
     let to = put_bytes(period, out, at);
-    let written = text_digits::write_rest(
-        large(i + 1),
-        wide(count_at(state, i)),
-        wide(flow_in(sheet, i + 1)),
-        wide(off_flow_in(n, sheet, i)),
-        wide(on_flow_in(n, sheet, i)),
-        wide(mode_in(n, sheet, i)),
-        out,
-        to,
-    );
-    match written {
-        Written::To(end) => end,
-        Written::Refused(_) => to,
-    }
+    let rest = [
+        (i + 1) as u64,
+        u64::from(count_at(state, i)),
+        u64::from(flow_in(sheet, i + 1)),
+        u64::from(off_flow_in(n, sheet, i)),
+        u64::from(on_flow_in(n, sheet, i)),
+        u64::from(mode_in(n, sheet, i)),
+    ];
+    text_digits::write_rest(rest, out, to).unwrap()
 }
 
 // The cells' lines.
@@ -161,10 +136,8 @@ fn put_cells(
     ensures { PutCells period.now n state.now sheet.now out.old at result out.new }
 {
     let mut to = at;
-    let mut i = 0;
-    while i < n {
+    for i in 0..n {
         to = put_cell(period, n, i, state, sheet, out, to);
-        i += 1;
     }
     to
 }

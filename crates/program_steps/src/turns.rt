@@ -9,8 +9,7 @@ ghost use Rattle.program_steps.specs.Private.{Turned, written_to, ReadyAt};
 use crate::Turn;
 use crate::lines::{put_period, put_stop};
 use layout::cells;
-use program_files::{broken, refused_in};
-use refusals::Answer;
+use program_files::{Source, broken, refused_in};
 use text_records::Read;
 use text_scans::{End, Scan};
 
@@ -28,16 +27,15 @@ fn run_row(
     requires { ReadyAt (corridor_of table.now state.old) row.now sheet.old out.old at }
     ensures { Turned asymmetric (did_row (demand_answer (corridor_of table.now state.old) row.now) next) k (corridor_of table.now state.old) row.now sheet.old out.old at result (corridor_of table.now state.new) sheet.new out.new }
 {
-    let answer = accept_rows::accept_demand(table, state, row);
-    match answer {
-        Answer::Accepted => {
+    match accept_rows::accept_demand(table, state, row) {
+        Ok(()) => {
             period::run_accepted(table, state, row, sheet);
             Turn::Period {
                 next,
                 at: put_period(k, cells(table), state, sheet, out, at),
             }
         }
-        Answer::Refused(refusal) => Turn::Over(put_stop(refused_in(k, refusal), out, at)),
+        Err(refusal) => Turn::Over(put_stop(refused_in(k, refusal), out, at)),
     }
 }
 
@@ -68,7 +66,7 @@ pub(crate) fn turn_of(
 {
     match read {
         Read::Part(next) => Turn::Part { scan: next, at },
-        Read::Broken => Turn::Over(put_stop(broken(k, k, 3), out, at)),
+        Read::Broken => Turn::Over(put_stop(broken(k, k, Source::Demand), out, at)),
         Read::Record(next) => run_row(k, next, table, state, row, sheet, out, at),
     }
 }
@@ -99,8 +97,6 @@ pub(crate) fn written_to(turn: Turn) -> usize
     ensures { result ≡ written_to turn }
 {
     match turn {
-        Turn::Part { scan: _, at } => at,
-        Turn::Period { next: _, at } => at,
-        Turn::Over(at) => at,
+        Turn::Part { at, .. } | Turn::Period { at, .. } | Turn::Over(at) => at,
     }
 }

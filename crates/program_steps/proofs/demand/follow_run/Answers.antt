@@ -16,25 +16,25 @@ returns-then-not-has_room c =
     let none : leb (lines_room (cells c.args.table.now)) (length c.args.out.now - c.loop-from.at) ≡ false =
     rw (c.cells-n.ensures, c.loop-from.invariant.4) at (sym c.has_room.ensures ∙ c.if-not-has_room.true)
     in
-    rw c.stands.ensures (full _ _ _ _ _ _ _ _ c.loop-from.invariant.0 none c.loop-from-test.true)
+    full _ _ _ _ _ _ _ _ c.loop-from.invariant.0 none c.loop-from-test.true
 
 pub returns-in-Part : goal.returns-in-Part
 returns-in-Part c =
     let has : leb (lines_room (cells c.args.table.now)) (length c.args.out.now - c.loop-from.at) ≡ true =
     rw (c.cells-n.ensures, c.loop-from.invariant.4) at (sym c.has_room.ensures ∙ c.if-not-has_room.false)
     in
-    let turn = c.turn-turn in
-    rw c.stands-in-Part.ensures (part_left _ _ _ _ _ _ _ _ c.loop-from.invariant.0 has turn.ensures.reads turn.auto.row turn.ensures.does c.in-Part.is)
+    let turn = c.turn in
+    part_left _ _ _ _ _ _ _ _ c.loop-from.invariant.0 has turn.ensures.reads turn.auto.row turn.ensures.does c.in-Part.is
 
 pub loop-from-smaller : goal.loop-from-smaller
-loop-from-smaller c = omega (arith, goes_onward _ _ _ _ _ _ c.turn-turn.ensures.does.answered c.in-Period.is)
+loop-from-smaller c = omega (arith, goes_onward _ _ _ _ _ _ c.turn.ensures.does.answered c.in-Period.is)
 
 pub loop-from-preserved : goal.loop-from-preserved
 loop-from-preserved c =
     let has : leb (lines_room (cells c.args.table.now)) (length c.args.out.now - c.loop-from.at) ≡ true =
     rw (c.cells-n.ensures, c.loop-from.invariant.4) at (sym c.has_room.ensures ∙ c.if-not-has_room.false)
     in
-    let turn = c.turn-turn in
+    let turn = c.turn in
     let onward = goes_onward _ _ _ _ _ _ turn.ensures.does.answered c.in-Period.is in
     let followed = period_followed _ _ _ _ _ _ _ _ c.loop-from.invariant.0 has turn.ensures.reads turn.auto.row turn.ensures.does asymmetric_is_fair c.in-Period.is onward in
     (rw (c.begin-scan.ensures, c.counted-k.ensures) followed, turn.auto.state ∙ c.loop-from.invariant.1, turn.auto.row ∙ c.loop-from.invariant.2, turn.auto.sheet ∙ c.loop-from.invariant.3, turn.auto.out ∙ c.loop-from.invariant.4)
@@ -44,8 +44,8 @@ returns-in-Over c =
     let has : leb (lines_room (cells c.args.table.now)) (length c.args.out.now - c.loop-from.at) ≡ true =
     rw (c.cells-n.ensures, c.loop-from.invariant.4) at (sym c.has_room.ensures ∙ c.if-not-has_room.false)
     in
-    let turn = c.turn-turn in
+    let turn = c.turn in
     over_left _ _ _ _ _ _ _ _ c.loop-from.invariant.0 has turn.ensures.reads turn.auto.row turn.ensures.does c.in-Over.is
 
 pub returns : goal.returns
-returns c = rw c.stands-2.ensures (used_up _ _ _ _ _ _ _ _ c.loop-from.invariant.0 c.loop-from-test.false)
+returns c = used_up _ _ _ _ _ _ _ _ c.loop-from.invariant.0 c.loop-from-test.false

@@ -7,7 +7,4 @@ use Rattle.program_steps.proofs.Writing.{Writing}
 use Rattle.program_steps.proofs.lines.put_cells.Given as goal
 
 abbrev pub invariant-loop-i : goal.invariant-loop-i
-invariant-loop-i l = ((k : ℕ) → l.period ≡ digits_of k → Writing k l.n l.state l.sheet l.initial.out l.at l.i l.out l.to) × (l.i ≤ l.n) × (l.to + line_room * (l.n - l.i) ≤ length l.out) × (length l.out ≡ length l.initial.out)
-
-abbrev pub decreases-loop-i : goal.decreases-loop-i
-decreases-loop-i l = l.n - l.i
+invariant-loop-i l = ((k : ℕ) → l.period ≡ digits_of k → Writing k l.n l.state l.sheet l.initial.out l.at l.i l.out l.to) × (l.to + line_room * (l.n - l.i) ≤ length l.out) × (length l.out ≡ length l.initial.out)
