@@ -13,7 +13,7 @@ use Rattle.whole.specs.Search.{pick}
 use Rattle.whole.proofs.Search.{is_first}
 use Rattle.refusals.specs.declared.Refusal.{Refusal}
 use Rattle.refusals.specs.Refusals.{number_of, place_of}
-use Rattle.refusals.specs.Checks.{Check, least, or_later, answer}
+use Rattle.refusals.specs.Checks.{Answer, Check, least, or_later, answer}
 use Rattle.refusals.proofs.Answers.{refused_is_not_accepted}
 use Rattle.refusals_laws.specs.Lowest.{FailsWith, Applies, LowestNumber, SmallestPlace}
 
@@ -54,7 +54,7 @@ none_here : (check : Check) {refusal : Refusal} → check.places ≤ least check
 none_here check passed other =
     false≢true (sym other.fails ∙ (is_first check.places check.test).before other.place (omega (arith, other.inside)))
 
-refusal_is : {a b : Refusal} → Err a ≡ Err b → a ≡ b
+refusal_is : {a b : Refusal} → ◌≡◌ {A = Answer} (Err a) (Err b) → a ≡ b
 refusal_is e = cc
 
 -- from the checks after one to that one with them
