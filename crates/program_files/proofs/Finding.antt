@@ -15,7 +15,6 @@ use Rattle.layout.specs.Corridor.{Corridor}
 use Rattle.accept_rows.specs.Acceptance.{state_checks}
 use Rattle.program_files.specs.Stops.{broken, refused_in}
 use Rattle.program_files.specs.Files.{File, Found, cells_found, state_found, accepted_then}
-use Rattle.program_files.specs.declared.Source.{Source}
 use Rattle.program_files.specs.declared.Stop.{Stop}
 use Rattle.program_files.specs.declared.Unread.TheVariants.{Broken, Lost}
 
@@ -57,7 +56,7 @@ state_told (Err Lost) c n e = no_halt _ n e
 state_told (Err (Broken place)) c n e = no_halt _ n e
 state_told (Ok m) c n e = by (eqb m 0) (eqb m 1) refl e
   where
-    by : (none one : Bool) → eqb m 1 ≡ one → pick none (Err (broken 0 1 Source.State)) (pick one (accepted_then (answer (state_checks c))) (Err (broken 0 2 Source.State))) ≡ Ok n → State (Ok m) c
+    by : (none one : Bool) → eqb m 1 ≡ one → pick none (Err (broken 0 1 2)) (pick one (accepted_then (answer (state_checks c))) (Err (broken 0 2 2))) ≡ Ok n → State (Ok m) c
     by true one is e = no_halt _ n e
     by false false is e = no_halt _ n e
     by false true is e = record { held = ap Ok (eqb-true m 1 is); accepted = then_told _ n e }

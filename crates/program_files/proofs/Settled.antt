@@ -15,10 +15,6 @@ use Rattle.program_files.proofs.state_found.Kinds as state_found_kinds
 use Rattle.program_files.proofs.state_found.Reads as state_found_reads
 use Rattle.program_files.proofs.demand_lost.Kinds as demand_lost_kinds
 use Rattle.program_files.proofs.demand_lost.Reads as demand_lost_reads
-use Rattle.program_files.proofs.Source.number.Kinds as number_kinds
-use Rattle.program_files.proofs.Source.number.Reads as number_reads
-use Rattle.program_files.proofs.Stop.file.Kinds as file_kinds
-use Rattle.program_files.proofs.Stop.file.Reads as file_reads
 use Rattle.program_files.proofs.counted.Kinds as counted_kinds
 use Rattle.program_files.proofs.counted.Reads as counted_reads
 use Rattle.program_files.proofs.broken.Kinds as broken_kinds
@@ -52,9 +48,3 @@ broken_settles κs a y z e f = settled
 
 pub refused_in_settles : Settles _ refused_in_kinds.ps refused_in_kinds.r refused_in_reads.Learnt
 refused_in_settles κs a y z e f = settled
-
-pub number_settles : Settles _ number_kinds.ps number_kinds.r number_reads.Learnt
-number_settles κs a y z e f = settled
-
-pub file_settles : Settles _ file_kinds.ps file_kinds.r file_reads.Learnt
-file_settles κs a y z e f = settled

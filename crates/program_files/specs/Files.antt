@@ -15,7 +15,6 @@ use Rattle.program_files.specs.Stops.{broken, refused_in}
 use Rattle.program_files.specs.declared.Reading.{Reading}
 use Rattle.program_files.specs.declared.Unread.{Unread}
 use Rattle.program_files.specs.declared.Unread.TheVariants.{Broken, Lost}
-use Rattle.program_files.specs.declared.Source.{Source}
 use Rattle.program_files.specs.declared.Stop.{Stop}
 
 -- a file that is being read, one that is read to its end, and what the program does then: it goes on with so many records, or ends
@@ -66,8 +65,8 @@ file_end fields (Err unread) list = (Err unread, list)
 
 -- The cells: 12 for any of their records, then 1 on N.
 unfoldable pub cells_found : File → Found
-cells_found (Err Lost) = Err (broken 0 0 Source.Cells)
-cells_found (Err (Broken place)) = Err (broken 0 place Source.Cells)
+cells_found (Err Lost) = Err (broken 0 0 1)
+cells_found (Err (Broken place)) = Err (broken 0 place 1)
 cells_found (Ok n) = pick (within 1 MOST n) (Ok n) (Err (refused_in 0 Length))
 
 -- The state: its one record missing has the place it would have, one after it its own; then 2 to 5.
@@ -76,10 +75,10 @@ accepted_then (Ok done) = Ok 1
 accepted_then (Err refusal) = Err (refused_in 0 refusal)
 
 unfoldable pub state_found : File → Corridor → Found
-state_found (Err Lost) c = Err (broken 0 0 Source.State)
-state_found (Err (Broken place)) c = Err (broken 0 (pick (leb place 1) 1 2) Source.State)
-state_found (Ok n) c = pick (eqb n 0) (Err (broken 0 1 Source.State)) (pick (eqb n 1) (accepted_then (answer (state_checks c))) (Err (broken 0 2 Source.State)))
+state_found (Err Lost) c = Err (broken 0 0 2)
+state_found (Err (Broken place)) c = Err (broken 0 (pick (leb place 1) 1 2) 2)
+state_found (Ok n) c = pick (eqb n 0) (Err (broken 0 1 2)) (pick (eqb n 1) (accepted_then (answer (state_checks c))) (Err (broken 0 2 2)))
 
 -- The demand: it is missing before the first period, or can't be read on while period k is tried.
 abbrev pub demand_lost : ℕ → Stop
-demand_lost k = broken k 0 Source.Demand
+demand_lost k = broken k 0 3

@@ -8,7 +8,7 @@ ghost use Rattle.text_scans.specs.Scans.{begin, untouched};
 ghost use Rattle.refusals.specs.Checks.{answer};
 ghost use Rattle.layout.specs.Corridor.{corridor_of};
 ghost use Rattle.accept_rows.specs.Acceptance.{state_checks};
-ghost use Rattle.program_files.specs.Stops.{source_number, file_of_stop, broken, refused_in};
+ghost use Rattle.program_files.specs.Stops.{stop_of, broken, refused_in};
 ghost use Rattle.program_files.specs.Files.{counted, next_index, standing, file_on, file_end, cells_found, state_found, accepted_then, demand_lost};
 
 use refusals::Refusal;
@@ -31,45 +31,13 @@ pub enum Unread {
     Lost,
 }
 
-// The files, in the order in which they are read.
-#[derive(Clone, Copy, Debug, PartialEq, Eq)]
-pub enum Source {
-    Cells,
-    State,
-    Demand,
-}
-
-impl Source {
-    // As a refusal's line numbers it.
-    pub fn number(self) -> u32
-        ensures { result ≡ source_number self }
-    {
-        match self {
-            Source::Cells => 1,
-            Source::State => 2,
-            Source::Demand => 3,
-        }
-    }
-}
-
-// What a refusal's line says: the period that is tried, the refusal, and the file of a broken record or a missing file.
+// A refusal's line. Its numbers are plain: what is promised of a line holds of any number, place and file.
 #[derive(Clone, Copy, Debug, PartialEq, Eq)]
 pub struct Stop {
     pub period: usize,
-    pub refusal: Refusal,
-    pub source: Option<Source>,
-}
-
-impl Stop {
-    // The number of the file, or 0.
-    pub fn file(self) -> u32
-        ensures { result ≡ file_of_stop self }
-    {
-        match self.source {
-            Some(source) => source.number(),
-            None => 0,
-        }
-    }
+    pub place: usize,
+    pub number: u32,
+    pub file: u32,
 }
 
 // One more, where there is a larger number.
@@ -196,26 +164,30 @@ pub fn read_end(
     }
 }
 
-// Number 12 of a record of a file, or at place 0 of a file that is missing.
-pub fn broken(period: usize, place: usize, source: Source) -> Stop
-    ensures { result ≡ broken period place source }
+// The number and the place of a refusal, in a period and a file.
+fn stop_of(period: usize, refusal: Refusal, file: u32) -> Stop
+    ensures { result ≡ stop_of period refusal file }
 {
     Stop {
         period,
-        refusal: Refusal::Record(place),
-        source: Some(source),
+        place: refusal.place(),
+        number: refusal.number(),
+        file,
     }
+}
+
+// Number 12 of a record of a file, or at place 0 of a file that is missing.
+pub fn broken(period: usize, place: usize, file: u32) -> Stop
+    ensures { result ≡ broken period place file }
+{
+    stop_of(period, Refusal::Record(place), file)
 }
 
 // Any other number.
 pub fn refused_in(period: usize, refusal: Refusal) -> Stop
     ensures { result ≡ refused_in period refusal }
 {
-    Stop {
-        period,
-        refusal,
-        source: None,
-    }
+    stop_of(period, refusal, 0)
 }
 
 // What the cells come to: 12 for any of their records, then 1 on N.
@@ -226,8 +198,8 @@ pub fn cells_found(file: Result<usize, Unread>) -> Result<usize, Stop>
     match file {
         Ok(n) if 1 <= n && n <= 512 => Ok(n),
         Ok(_) => Err(refused_in(0, Refusal::Length)),
-        Err(Unread::Broken(place)) => Err(broken(0, place, Source::Cells)),
-        Err(Unread::Lost) => Err(broken(0, 0, Source::Cells)),
+        Err(Unread::Broken(place)) => Err(broken(0, place, 1)),
+        Err(Unread::Lost) => Err(broken(0, 0, 1)),
     }
 }
 
@@ -249,10 +221,10 @@ pub fn state_found(file: Result<usize, Unread>, table: &[u32], state: &[u32]) ->
 {
     match file {
         Ok(1) => accepted_then(table, state),
-        Ok(0) => Err(broken(0, 1, Source::State)),
-        Err(Unread::Lost) => Err(broken(0, 0, Source::State)),
-        Err(Unread::Broken(place)) if place <= 1 => Err(broken(0, 1, Source::State)),
-        Ok(_) | Err(Unread::Broken(_)) => Err(broken(0, 2, Source::State)),
+        Ok(0) => Err(broken(0, 1, 2)),
+        Err(Unread::Lost) => Err(broken(0, 0, 2)),
+        Err(Unread::Broken(place)) if place <= 1 => Err(broken(0, 1, 2)),
+        Ok(_) | Err(Unread::Broken(_)) => Err(broken(0, 2, 2)),
     }
 }
 
@@ -260,5 +232,5 @@ pub fn state_found(file: Result<usize, Unread>, table: &[u32], state: &[u32]) ->
 pub fn demand_lost(k: usize) -> Stop
     ensures { result ≡ demand_lost k }
 {
-    broken(k, 0, Source::Demand)
+    broken(k, 0, 3)
 }

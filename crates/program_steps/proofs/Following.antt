@@ -10,7 +10,6 @@ use lib.ListN.{length, set, drop, length-append, length-drop, drop_of_length-le}
 use lib.Seq.{sets, drop-drop}
 use Rattle.refusals.specs.declared.Refusal.{Refusal}
 use Rattle.std.specs.Prelude.{Ok, Err, Result}
-use Rattle.program_files.specs.declared.Source.{Source}
 use Rattle.refusals.specs.Checks.{Answer}
 use Rattle.whole.specs.Search.{pick}
 use Rattle.layout.specs.Layout.{demand_length}
@@ -52,7 +51,7 @@ module _ (way : Sharing) where
   -- what following comes to, by what reading on in the bytes does
   unfoldable follow_did : ℕ → ℕ → List ℕ → Corridor → List ℕ → ℕ → List ℕ → Did → Followed
   follow_did room k row c sheet at bytes (reads scan) = silent (later k scan 0) row c sheet
-  follow_did room k row c sheet at bytes breaks = stopped (broken k k Source.Demand) row c sheet
+  follow_did room k row c sheet at bytes breaks = stopped (broken k k 3) row c sheet
   follow_did room k row c sheet at bytes (refuses why) = stopped (refused_in k why) row c sheet
   follow_did room k row c sheet at bytes (passes next) =
       after (lines_of way k c row)
@@ -201,7 +200,7 @@ module _ (way : Sharing) where
                 → corridor_left ≡ when_passed d (corridor_after way c row') c → sheet_left ≡ when_passed d (sheet_of way c row') sheet → out_left ≡ sets out at (did_text k (lines_of way k c row') d)
                 → Leaves whole (length chunk) out₀ (Ok (Over to)) row' corridor_left sheet_left out_left
             by (reads s) f a es eh w = absurd (let z : ◌≡◌ {A = ℕ} 0 1 = cc in omega arith)
-            by breaks f a es eh w = let to_is : to ≡ at + length (stop_text (broken k k Source.Demand)) = cc in rw (es, eh) (ended (stop_text (broken k k Source.Demand)) f to_is w)
+            by breaks f a es eh w = let to_is : to ≡ at + length (stop_text (broken k k 3)) = cc in rw (es, eh) (ended (stop_text (broken k k 3)) f to_is w)
             by (refuses why) f a es eh w = let to_is : to ≡ at + length (stop_text (refused_in k why)) = cc in rw (es, eh) (ended (stop_text (refused_in k why)) f to_is w)
             by (passes n) f a es eh w = absurd (let z : ◌≡◌ {A = ℕ} 0 1 = cc in omega arith)
 

@@ -9,7 +9,6 @@ use lib.Dec.{eqb}
 use lib.ListN.{length, take}
 use lib.Seq.{sets}
 use Rattle.std.specs.Prelude.{Ok, Err}
-use Rattle.program_files.specs.declared.Source.{Source}
 use Rattle.program_files.specs.declared.Unread.TheVariants.{Broken, Lost}
 use Rattle.whole.specs.Search.{pick}
 use Rattle.whole.proofs.Lists.{zeros-length}
@@ -76,7 +75,7 @@ state_found_same (Err (Broken place)) c d same = refl
 state_found_same (Ok n) c d same = by (eqb n 1) refl
   where
     found : Bool → Corridor → Found
-    found one x = pick (eqb n 0) (Err (broken 0 1 Source.State)) (pick one (accepted_then (answer (state_checks x))) (Err (broken 0 2 Source.State)))
+    found one x = pick (eqb n 0) (Err (broken 0 1 2)) (pick one (accepted_then (answer (state_checks x))) (Err (broken 0 2 2)))
 
     by : (one : Bool) → eqb n 1 ≡ one → found one c ≡ found one d
     by false e = refl

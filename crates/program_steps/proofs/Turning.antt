@@ -5,7 +5,6 @@ use mathlib.Core.List.{List, []}
 use native.Mathlib.Omega.{arith}
 use lib.ListN.{length}
 use Rattle.std.specs.Prelude.{Ok, Err}
-use Rattle.program_files.specs.declared.Source.{Source}
 use Rattle.refusals.specs.Checks.{Answer, accepted}
 use Rattle.refusals.specs.declared.Refusal.{Refusal}
 use Rattle.layout.specs.Corridor.{Corridor, corridor_of, cells_of}
@@ -53,7 +52,7 @@ module _ (way : Sharing) (k : ℕ) (c : Corridor) (row sheet out : List ℕ) (at
       rw refused (record { answered = ap Over written.ends; leaves_corridor = refl; leaves_sheet = refl; writes = written.stores })
 
   -- a record that breaks
-  pub break_stops : {stop : Stop} → stop ≡ broken k k Source.Demand → Put (stop_text stop) out at end out_left
+  pub break_stops : {stop : Stop} → stop ≡ broken k k 3 → Put (stop_text stop) out at end out_left
       → Turned way breaks k c row sheet out at (Over end) c sheet out_left
   unfolding did_text turn_of when_passed
   break_stops same put =

@@ -1,6 +1,5 @@
 -- Rules, "The text and the program": the demand, followed byte after byte. A complete record has its period and its lines.
 -- Following stops where the bytes are used up, where the output has no room for another period's lines, and where a record is refused.
-use Rattle.program_files.specs.declared.Source.{Source}
 use Rattle.std.specs.Prelude.{ℕ, ◌+◌, ◌-◌, ◌*◌, ◌≡◌, Bool, ◌&&◌, List, [], ◌∷◌, ◌++◌, leb, eqb, length, set, Ok, Err, Result}
 use Rattle.std.proofs.lemmas.List.Edits.{sets}
 use Rattle.whole.specs.Search.{pick}
@@ -60,7 +59,7 @@ unfoldable pub follow_of : Step → ℕ → List ℕ → Corridor → List ℕ �
 follow_of (More next) k row c sheet on complete = on next row
 follow_of (Field field number next) k row c sheet on complete = on next (set row field number)
 follow_of Complete k row c sheet on complete = complete
-follow_of Breaks k row c sheet on complete = stopped (broken k k Source.Demand) row c sheet
+follow_of Breaks k row c sheet on complete = stopped (broken k k 3) row c sheet
 
 -- the lines of a period of n cells take at most so many bytes
 abbrev pub lines_room : ℕ → ℕ

@@ -1,6 +1,4 @@
 -- Rules, "The text and the program": the lines that the run program writes. Each ends with CR LF.
-use Rattle.program_files.specs.Stops.{file_of_stop}
-use Rattle.refusals.specs.Refusals.{number_of, place_of}
 use Rattle.refusals.specs.declared.Refusal.{Refusal}
 use Rattle.std.specs.Prelude.{ℕ, ◌+◌, List, [], ◌∷◌, ◌++◌, leb, length, Result, Ok}
 use Rattle.std.proofs.lemmas.List.Edits.{sets}
@@ -33,7 +31,7 @@ period_text k n state sheet = line_text (entry_record k state sheet) ++ text_of 
 
 -- the line that ends the program with a refusal: period being tried, place, number, file, 0, 0, 2
 abbrev pub stop_record : Stop → List ℕ
-stop_record stop = stop.period ∷ place_of stop.refusal ∷ number_of stop.refusal ∷ file_of_stop stop ∷ 0 ∷ 0 ∷ 2 ∷ []
+stop_record stop = stop.period ∷ stop.place ∷ stop.number ∷ stop.file ∷ 0 ∷ 0 ∷ 2 ∷ []
 
 unfoldable pub stop_text : Stop → List ℕ
 stop_text stop = line_text (stop_record stop)

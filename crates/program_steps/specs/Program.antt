@@ -1,5 +1,4 @@
 -- Rules, "The text and the program": the whole run program, from three files to the output.
-use Rattle.program_files.specs.declared.Source.{Source}
 use Rattle.program_files.specs.declared.Unread.TheVariants.{Broken, Lost}
 use Rattle.refusals.specs.Checks.{Answer}
 use Rattle.std.specs.Prelude.{ℕ, ◌+◌, List, [], ◌∷◌, ◌++◌, set, Ok, Err}
@@ -74,7 +73,7 @@ module _ (way : Sharing) where
   -- the lines of the periods from k on, one for each record; a refused record ends them with its line
   unfoldable pub sheet_text : ℕ → Corridor → Records → List ℕ
   sheet_text k c end = []
-  sheet_text k c break = stop_text (broken k k Source.Demand)
+  sheet_text k c break = stop_text (broken k k 3)
   sheet_text k c (then row rest) = periods_from k (demand_answer c row) (lines_of way k c row) (sheet_text (k + 1) (corridor_after way c row) rest)
 
   -- the demand, under an accepted table and state

@@ -1,5 +1,4 @@
 -- Rules, "The text and the program": a demand record is read, checked, run and written, one for each period.
-use Rattle.program_files.specs.declared.Source.{Source}
 use Rattle.std.specs.Prelude.{ℕ, List, [], Ok, Err}
 use Rattle.refusals.specs.declared.Refusal.{Refusal}
 use Rattle.refusals.specs.Checks.{answer, Answer}
@@ -47,7 +46,7 @@ last_read Cut = Broken
 -- what is written in period k, whose lines these would be
 unfoldable pub did_text : ℕ → List ℕ → Did → List ℕ
 did_text k lines (reads scan) = []
-did_text k lines breaks = stop_text (broken k k Source.Demand)
+did_text k lines breaks = stop_text (broken k k 3)
 did_text k lines (refuses refusal) = stop_text (refused_in k refusal)
 did_text k lines (passes next) = lines
 

@@ -50,9 +50,9 @@ pub(crate) fn put_stop(stop: Stop, out: &mut [u8], at: usize) -> usize
 {
     let line = [
         stop.period as u64,
-        stop.refusal.place() as u64,
-        u64::from(stop.refusal.number()),
-        u64::from(stop.file()),
+        stop.place as u64,
+        u64::from(stop.number),
+        u64::from(stop.file),
         0,
         0,
         2,

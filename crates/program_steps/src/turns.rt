@@ -9,7 +9,7 @@ ghost use Rattle.program_steps.specs.Private.{Turned, written_to, ReadyAt};
 use crate::Turn;
 use crate::lines::{put_period, put_stop};
 use layout::cells;
-use program_files::{Source, broken, refused_in};
+use program_files::{broken, refused_in};
 use text_records::Read;
 use text_scans::{End, Scan};
 
@@ -66,7 +66,7 @@ pub(crate) fn turn_of(
 {
     match read {
         Read::Part(next) => Turn::Part { scan: next, at },
-        Read::Broken => Turn::Over(put_stop(broken(k, k, Source::Demand), out, at)),
+        Read::Broken => Turn::Over(put_stop(broken(k, k, 3), out, at)),
         Read::Record(next) => run_row(k, next, table, state, row, sheet, out, at),
     }
 }
