@@ -1,3 +1,4 @@
 pub mod Lengths
 pub mod Accepted
+pub mod Told
 pub mod Settled

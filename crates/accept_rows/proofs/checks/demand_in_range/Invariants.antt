@@ -1,7 +1,0 @@
-use mathlib.Core.List.{[]}
-use Rattle.layout.specs.Corridor.{corridor_of}
-use Rattle.accept_rows.specs.Acceptance.{demand_in_range}
-use Rattle.accept_rows.proofs.checks.demand_in_range.Given as goal
-
-abbrev pub ghost-ask : goal.ghost-ask
-ghost-ask a = demand_in_range (corridor_of a.test.0.now []) a.test.1.now
