@@ -2,16 +2,16 @@
 use Prim.Native.Nat.{ℕ}
 use mathlib.Core.Path.{◌≡◌, refl, sym, ap, ap₂, ◌∙◌}
 use mathlib.Core.Bool.{Bool, true, false}
-use mathlib.Core.List.{List, [], ◌∷◌, ◌++◌}
+use mathlib.Core.List.{List, ◌∷◌}
 use Rattle.std.proofs.Common.{subst}
 use Rattle.std.specs.Prelude.{Err}
 use Rattle.refusals.specs.declared.Refusal.{Refusal}
 use Rattle.refusals.specs.declared.Refusal.TheVariants.{Length}
-use Rattle.refusals.specs.Checks.{Answer, Check, accepted, answer, lengths}
-use Rattle.refusals.proofs.Answers.{lengths_fail, lengths_passed, refused_stays, accepted_goes_on}
+use Rattle.refusals.specs.Checks.{Answer, Check, answer, lengths}
+use Rattle.refusals.proofs.Answers.{lengths_fail, lengths_passed}
 use Rattle.layout.specs.Corridor.{Corridor, corridor_of}
 use Rattle.accept_tables.specs.Tables.{table_length_fits, table_numbers}
-use Rattle.accept_rows.specs.Acceptance.{state_lengths_fit, row_lengths_fit, state_in_range, state_numbers, demand_numbers, state_checks, state_alone_checks, row_checks, demand_checks}
+use Rattle.accept_rows.specs.Acceptance.{state_lengths_fit, row_lengths_fit}
 use Rattle.accept_rows.proofs.Lengths.{table_length_lem}
 
 -- number 1, before any other checks

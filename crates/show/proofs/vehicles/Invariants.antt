@@ -1,4 +1,4 @@
-use Rattle.std.proofs.Common.{◌≡◌, ◌+◌, ◌*◌, ◌≤◌}
+use Rattle.std.proofs.Common.{◌+◌, ◌*◌, ◌≤◌}
 use Rattle.show.proofs.vehicles.Given as goal
 
 -- two numbers below 2 ^ 32 for each cell that was passed, and the entry queue
