@@ -1,7 +1,6 @@
--- What a test in the code tells of the test in the definitions, and what an answer tells. Assumes nothing.
-use Rattle.std.proofs.Common.{◌≡◌, ℕ, ◌+◌, Bool, true, false, not, sym, refl, ◌∙◌, lit<}
+-- What a check of one place and the check of number 11 answer, and what an answer tells. Assumes nothing.
+use Rattle.std.proofs.Common.{◌≡◌, ℕ, ◌+◌, Bool, true, false, refl, lit<}
 use Rattle.std.specs.Prelude.{Ok, Err, [], ◌∷◌, slice_index_or}
-use borrow.Author.Tests.{not-true, not-false}
 use Rattle.whole.specs.Search.{pick}
 use Rattle.refusals.proofs.Answers.{accepted_passes}
 use Rattle.refusals.specs.declared.Refusal.{Refusal}
@@ -11,13 +10,6 @@ use Rattle.calibrate_rows.specs.declared.RowValues.{RowValues}
 use Rattle.calibrate_rows.specs.RowNumbers.{value_fits}
 use Rattle.calibrate_rows.specs.Rows.{values_fit, refused_or}
 use Rattle.calibrate_rows.specs.Private.{EachFits}
-
--- r is what the code found of a test, and `if !r` went one way or the other
-pub fails : {r test : Bool} → r ≡ test → not r ≡ true → test ≡ false
-fails e h = sym e ∙ not-true _ h
-
-pub holds : {r test : Bool} → r ≡ test → not r ≡ false → test ≡ true
-holds e h = sym e ∙ not-false _ h
 
 -- a check of one place
 pub test_fails : (refusal : ℕ → Refusal) (later : Answer) {fit : Bool} → fit ≡ false → Err (refusal 0) ≡ or_later (record { places = 1; test = λ _. fit; refusal = refusal }) later
