@@ -21,7 +21,7 @@ returns-then-not-settings_fit c = let lists = c.args in
 pub loop-i-init : goal.loop-i-init
 unfolding of_bits of_int
 loop-i-init c =
-    (search.goes_on (search.begins _ refl) (omega arith) c.if-not-settings_fit.ensures refl, begins _ _ _ _)
+    (search.goes_on (search.begins _ refl) (omega arith) c.if-not-settings_fit.ensures refl, begins)
 
 pub returns-in_default : goal.returns-in_default
 returns-in_default c = let lists = c.args in
@@ -34,12 +34,12 @@ pub loop-i-preserved : goal.loop-i-preserved
 loop-i-preserved c = let lists = c.args in
     let test = tested lists.settings lists.flow.now lists.occupancy.now c.loop-i.i c.in-Ok.ensures refl in (
       search.goes_on c.loop-i.invariant.0 (omega arith) test refl,
-      goes_on lists.settings lists.flow.now lists.occupancy.now c.loop-i.invariant.1 c.loop-i-test.true (le_refl _) c.in-Ok.ensures c.pick-most.ensures,
+      goes_on c.loop-i.invariant.1 c.loop-i-test.true (le_refl _) c.in-Ok.ensures c.pick-most.ensures,
     )
 
 pub returns : goal.returns
 returns c = let lists = c.args in
     let check = samples_usable lists.settings lists.flow.now lists.occupancy.now in
-    ap Ok (ends_whole lists.settings lists.flow.now lists.occupancy.now c.loop-i.invariant.1 c.loop-i-test.false)
+    ap Ok (ends_whole c.loop-i.invariant.1 c.loop-i-test.false)
     ∙ ap (λ a. refused_or a (largest_flow (samples lists.settings lists.flow.now lists.occupancy.now)))
     (passes check (search.not_found c.loop-i.invariant.0 (omega arith)) (le_refl _) refl)
