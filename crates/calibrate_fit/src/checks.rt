@@ -33,7 +33,8 @@ fn settings_fit(settings: Settings) -> bool
 // from 1.
 pub(crate) fn capacity(flow: &[f64], occupancy: &[f64], settings: Settings) -> Result<f64, Refusal>
     requires { length flow.now ≡ length occupancy.now }
-    ensures { result ≡ refused_or (answer (samples_usable settings flow.now occupancy.now ∷ [])) (largest_flow (samples settings flow.now occupancy.now)) }
+    ensures { result
+        ≡ refused_or (answer (samples_usable settings flow.now occupancy.now ∷ [])) (largest_flow (samples settings flow.now occupancy.now)) }
 {
     if !settings_fit(settings) {
         return Err(Refusal::Sample(0));

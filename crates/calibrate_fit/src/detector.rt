@@ -71,7 +71,8 @@ impl<'a> Detector<'a> {
     // zero, so no test of their own is made of these two.
     pub(crate) fn diagram(&self, capacity: f64) -> Result<Diagram, Refusal>
         requires { capacity ≡ largest_flow (samples self.now.settings self.now.flow.now self.now.occupancy.now) }
-        ensures { result ≡ fit_as (answer (diagram_fits self.now.settings self.now.flow.now self.now.occupancy.now ∷ [])) (fitted_diagram self.now.settings self.now.flow.now self.now.occupancy.now) }
+        ensures { let d = self.now in
+            result ≡ fit_as (answer (diagram_fits d.settings d.flow.now d.occupancy.now ∷ [])) (fitted_diagram d.settings d.flow.now d.occupancy.now) }
     {
         let free = self.speed_sums();
         let speed = free.top / free.bottom;
