@@ -24,6 +24,7 @@ pub(crate) struct Detector<'a> {
 
 impl<'a> Detector<'a> {
     // The sample at a position. Every sample is usable, so nothing is tested again.
+    #[tactic(auto, using(crate::proofs::Tests::usable_is_good))]
     fn sample(&self, i: usize) -> Sample
         requires { i < length self.now.flow.now }
         ensures { Ok result ≡ sample_at self.now.settings self.now.flow.now self.now.occupancy.now i }
