@@ -71,36 +71,36 @@ summing_above critical term =
     by true total sample rest = refl
     by false total sample rest = refl
 
--- where a pass from start to end stands at i: the samples left bring its total to what the whole stretch gives
-pub record Passing (pass : Pass) (all : List Reading) (start end i : ℕ) (total : Float) : Type 0 where
-  pub gives : pass.onward total (stretch i end all) ≡ pass.onward (double 0) (stretch start end all)
+-- where a pass over two lists, from start to end, stands at i: the samples left bring its total to what the whole stretch gives
+pub record Passing (pass : Pass) (settings : Settings) (flow occupancy : List Float) (start end i : ℕ) (total : Float) : Type 0 where
+  pub gives : pass.onward total (stretch i end (samples settings flow occupancy)) ≡ pass.onward (double 0) (stretch start end (samples settings flow occupancy))
 
-pub begins : (pass : Pass) (all : List Reading) (start end : ℕ) → Passing pass all start end start (double 0)
-begins pass all start end = record { gives = refl }
+pub begins : {pass : Pass} {settings : Settings} {flow occupancy : List Float} {start end : ℕ} → Passing pass settings flow occupancy start end start (double 0)
+begins = record { gives = refl }
 
-pub ends : {pass : Pass} {all : List Reading} {start end i : ℕ} {total : Float} → Passing pass all start end i total → end ≤ i → total ≡ pass.onward (double 0) (stretch start end all)
-ends {pass} {all} {end = end} {i} {total} at h =
-    sym (pass.stops total) ∙ sym (ap (pass.onward total) (stretch_ends all i end h)) ∙ at.gives
-
--- the same over the samples that are read from two lists
-module _ (settings : Settings) (flow occupancy : List Float) where
+module _ {pass : Pass} {settings : Settings} {flow occupancy : List Float} {start end i : ℕ} {total : Float} (at : Passing pass settings flow occupancy start end i total) where
   abbrev all : List Reading
   all = samples settings flow occupancy
 
-  pub goes_on : {pass : Pass} {start end i : ℕ} {total next : Float} {sample : Reading} → Passing pass all start end i total → i < end → end ≤ length flow → sample ≡ sample_at settings flow occupancy i → next ≡ pass.step total sample → Passing pass all start end (i + 1) next
-  goes_on {pass} {start} {end} {i} {total} {next} {sample} at h fit read stepped =
+  pub goes_on : {next : Float} {reading : Reading} → i < end → end ≤ length flow → reading ≡ sample_at settings flow occupancy i → next ≡ pass.step total reading → Passing pass settings flow occupancy start end (i + 1) next
+  goes_on {next} {reading} h fit read stepped =
       record {
         gives =
             ap (λ t. pass.onward t (stretch (i + 1) end all)) stepped
-            ∙ sym (pass.steps total sample (stretch (i + 1) end all))
+            ∙ sym (pass.steps total reading (stretch (i + 1) end all))
             ∙ ap (λ s. pass.onward total (s ∷ stretch (i + 1) end all)) (read ∙ sym (sample_at_lem settings flow occupancy i (omega arith)))
             ∙ sym (ap (pass.onward total) (stretch-cons all i end h (rw (samples_length settings flow occupancy) fit)))
             ∙ at.gives;
       }
 
-  pub ends_whole : {pass : Pass} {i : ℕ} {total : Float} → Passing pass all 0 (length flow) i total → length flow ≤ i → total ≡ pass.onward (double 0) all
-  ends_whole {pass} at h =
-      ends at h ∙ ap (pass.onward (double 0)) (stretch_whole all (length flow) (sym (samples_length settings flow occupancy)))
+  pub ends : end ≤ i → total ≡ pass.onward (double 0) (stretch start end all)
+  ends h = sym (pass.stops total) ∙ sym (ap (pass.onward total) (stretch_ends all i end h)) ∙ at.gives
+
+-- the same over all samples
+pub ends_whole : {pass : Pass} {settings : Settings} {flow occupancy : List Float} {i : ℕ} {total : Float} → Passing pass settings flow occupancy 0 (length flow) i total → length flow ≤ i → total ≡ pass.onward (double 0) (samples settings flow occupancy)
+ends_whole {pass} {settings} {flow} {occupancy} at h =
+    ends at h
+    ∙ ap (pass.onward (double 0)) (stretch_whole (samples settings flow occupancy) (length flow) (sym (samples_length settings flow occupancy)))
 
 -- the two sums of one quotient
 abbrev pub sums_of : Float → Float → Sums

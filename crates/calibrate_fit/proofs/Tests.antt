@@ -32,6 +32,8 @@ pub occupancy_is_finite : (occupancy : Float) → occupancy_in_range occupancy �
 unfolding le of_int
 occupancy_is_finite = only_finite occupancy_in_range refl refl refl
 
+pub ruleset in_range_is_finite = (flow_is_finite, occupancy_is_finite)
+
 -- a usable sample has passed each test of its reading
 pub usable_is_good : (g : Float) (lanes : ℕ) (flow occupancy : Float) → usable (sample_of g lanes flow occupancy) ≡ true → sample_of g lanes flow occupancy ≡ Ok (good_sample g lanes flow occupancy)
 unfolding sample_of

@@ -1,10 +1,7 @@
 // The checks of the rules' numbers 1 and 9 on samples and settings.
-ghost use Rattle.std.specs.Prelude.{◌≡◌, [], ◌∷◌, length};
-ghost use Rattle.refusals.specs.Checks.{answer};
-ghost use Rattle.calibrate_rows.specs.Rows.{refused_or};
-ghost use Rattle.calibrate_fit.specs.Samples.{samples};
-ghost use Rattle.calibrate_fit.specs.Diagrams.{largest_flow};
-ghost use Rattle.calibrate_fit.specs.Calibration.{lengths_fit, settings_fit, samples_usable};
+ghost use Rattle.std.specs.Prelude.{◌≡◌, length};
+ghost use Rattle.calibrate_fit.specs.Calibration.{lengths_fit, settings_fit};
+ghost use Rattle.calibrate_fit.specs.Private.{usable_capacity};
 
 use crate::doubles::pick;
 use crate::{Settings, read_sample};
@@ -33,7 +30,7 @@ fn settings_fit(settings: Settings) -> bool
 // from 1.
 pub(crate) fn capacity(flow: &[f64], occupancy: &[f64], settings: Settings) -> Result<f64, Refusal>
     requires { length flow.now ≡ length occupancy.now }
-    ensures { result ≡ refused_or (answer (samples_usable settings flow.now occupancy.now ∷ [])) (largest_flow (samples settings flow.now occupancy.now)) }
+    ensures { result ≡ usable_capacity settings flow.now occupancy.now }
 {
     if !settings_fit(settings) {
         return Err(Refusal::Sample(0));

@@ -24,6 +24,7 @@ pub(crate) struct Detector<'a> {
 
 impl<'a> Detector<'a> {
     // The sample at a position. Every sample is usable, so nothing is tested again.
+    #[tactic(auto, using(crate::proofs::Tests::usable_is_good))]
     fn sample(&self, i: usize) -> Sample
         requires { i < length self.now.flow.now }
         ensures { Ok result ≡ sample_at self.now.settings self.now.flow.now self.now.occupancy.now i }
@@ -71,7 +72,8 @@ impl<'a> Detector<'a> {
     // zero, so no test of their own is made of these two.
     pub(crate) fn diagram(&self, capacity: f64) -> Result<Diagram, Refusal>
         requires { capacity ≡ largest_flow (samples self.now.settings self.now.flow.now self.now.occupancy.now) }
-        ensures { result ≡ fit_as (answer (diagram_fits self.now.settings self.now.flow.now self.now.occupancy.now ∷ [])) (fitted_diagram self.now.settings self.now.flow.now self.now.occupancy.now) }
+        ensures { let d = self.now in
+            result ≡ fit_as (answer (diagram_fits d.settings d.flow.now d.occupancy.now ∷ [])) (fitted_diagram d.settings d.flow.now d.occupancy.now) }
     {
         let free = self.speed_sums();
         let speed = free.top / free.bottom;

@@ -69,6 +69,7 @@ fn occupancy_in_range(occupancy: f64) -> bool
 }
 
 // Why a sample is unusable whose flow and occupancy are not both in range.
+#[tactic(auto, using(crate::proofs::Tests::finite_is), unfolding(crate::specs::Samples::sample_of))]
 fn cause_of(flow: f64, occupancy: f64) -> Cause
     requires { (flow_in_range flow && occupancy_in_range occupancy) ≡ false }
     ensures { (g : Float) (lanes : ℕ) → sample_of g lanes flow occupancy ≡ Err result }
@@ -96,6 +97,7 @@ fn good_sample(g: f64, lanes: u32, flow: f64, occupancy: f64) -> Sample
 }
 
 // Reads one sample. A double in range is finite, so that finiteness is asked only for the cause.
+#[tactic(auto, using(crate::proofs::Tests::in_range_is_finite), unfolding(crate::specs::Samples::sample_of))]
 pub fn read_sample(g: f64, lanes: u32, flow: f64, occupancy: f64) -> Result<Sample, Cause>
     ensures { result ≡ sample_of g lanes flow occupancy }
 {

@@ -1,23 +1,17 @@
--- What a test in the code tells of the test in the definitions, and what an answer tells. Assumes nothing.
-use Rattle.std.proofs.Common.{◌≡◌, ℕ, ◌+◌, Bool, true, false, not, sym, refl, ◌∙◌, lit<}
+-- What a check of one place and the check of number 11 answer, and what an answer tells. Assumes nothing.
+use lib.Ieee.{Float}
+use Rattle.std.proofs.Common.{◌≡◌, ℕ, ◌+◌, sym, ap, ◌∙◌, Bool, true, false, refl, lit<}
 use Rattle.std.specs.Prelude.{Ok, Err, [], ◌∷◌, slice_index_or}
-use borrow.Author.Tests.{not-true, not-false}
 use Rattle.whole.specs.Search.{pick}
 use Rattle.refusals.proofs.Answers.{accepted_passes}
 use Rattle.refusals.specs.declared.Refusal.{Refusal}
-use Rattle.refusals.specs.declared.Refusal.TheVariants.{RowValue}
+use Rattle.refusals.specs.declared.Refusal.TheVariants.{Sample, RowValue}
 use Rattle.refusals.specs.Checks.{Answer, Check, accepted, answer, or_later}
 use Rattle.calibrate_rows.specs.declared.RowValues.{RowValues}
-use Rattle.calibrate_rows.specs.RowNumbers.{value_fits}
-use Rattle.calibrate_rows.specs.Rows.{values_fit, refused_or}
+use Rattle.calibrate_rows.specs.declared.Diagram.{Diagram}
+use Rattle.calibrate_rows.specs.RowNumbers.{row_values, value_fits}
+use Rattle.calibrate_rows.specs.Rows.{cell_settings_fit, values_fit, refused_or, row_as, row_made}
 use Rattle.calibrate_rows.specs.Private.{EachFits}
-
--- r is what the code found of a test, and `if !r` went one way or the other
-pub fails : {r test : Bool} → r ≡ test → not r ≡ true → test ≡ false
-fails e h = sym e ∙ not-true _ h
-
-pub holds : {r test : Bool} → r ≡ test → not r ≡ false → test ≡ true
-holds e h = sym e ∙ not-false _ h
 
 -- a check of one place
 pub test_fails : (refusal : ℕ → Refusal) (later : Answer) {fit : Bool} → fit ≡ false → Err (refusal 0) ≡ or_later (record { places = 1; test = λ _. fit; refusal = refusal }) later
@@ -27,6 +21,13 @@ test_fails refusal later e = rw e
 pub test_passes : (refusal : ℕ → Refusal) (later : Answer) {fit : Bool} → fit ≡ true → later ≡ or_later (record { places = 1; test = λ _. fit; refusal = refusal }) later
 unfolding or_later
 test_passes refusal later e = rw e
+
+-- where the settings fit, number 11 decides
+pub number_11_decides : (diagram : Diagram) (period : ℕ) (cell : Float) {values : RowValues} → values ≡ row_values diagram period cell → true ≡ cell_settings_fit period cell → row_as (answer (values_fit values ∷ [])) values ≡ row_made diagram period cell
+number_11_decides diagram period cell e fit =
+    let values = row_values diagram period cell in
+    ap (λ r. row_as (answer (values_fit r ∷ [])) r) e
+    ∙ ap (λ a. row_as a values) (test_passes Sample (answer (values_fit values ∷ [])) (sym fit))
 
 -- one more test before what is asked later: it refuses, or leaves the answer to what is asked later
 pub refuses : (fit : Bool) (at : Refusal) {refusal : Refusal} (later : Answer) → Err refusal ≡ pick fit accepted (Err at) → Err refusal ≡ pick fit later (Err at)

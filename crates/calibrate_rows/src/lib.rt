@@ -7,7 +7,7 @@ ghost use Rattle.whole.specs.Search.{pick};
 ghost use Rattle.refusals.specs.Checks.{answer, accepted};
 ghost use Rattle.refusals.specs.declared.Refusal.TheVariants.{RowValue};
 ghost use Rattle.calibrate_rows.specs.Doubles.{double, between};
-ghost use Rattle.calibrate_rows.specs.Rows.{cell_settings_fit, values_fit, row_as, row_made};
+ghost use Rattle.calibrate_rows.specs.Rows.{cell_settings_fit, values_fit, row_made};
 
 mod row;
 
@@ -74,14 +74,6 @@ fn values_fit(values: RowValues) -> Result<(), Refusal>
     value_fits(4, 4_000_000.0, values.jam)
 }
 
-// Number 11, and the row numbers where it does not apply.
-fn round_values(values: RowValues) -> Result<RowNumbers, Refusal>
-    ensures { result ≡ row_as (answer (values_fit values ∷ [])) values }
-{
-    values_fit(values)?;
-    Ok(row::row_numbers(values))
-}
-
 // Makes v, w, F and J of a diagram for the period T and the cell length L, or refuses with number 9 or 11.
 pub fn make_row(diagram: Diagram, period: u32, cell: f64) -> Result<RowNumbers, Refusal>
     ensures { result ≡ row_made diagram period cell }
@@ -89,5 +81,7 @@ pub fn make_row(diagram: Diagram, period: u32, cell: f64) -> Result<RowNumbers, 
     if !cell_settings_fit(period, cell) {
         return Err(Refusal::Sample(0));
     }
-    round_values(row::row_values(diagram, period, cell))
+    let values = row::row_values(diagram, period, cell);
+    values_fit(values)?;
+    Ok(row::row_numbers(values))
 }

@@ -1,5 +1,5 @@
 // The row values v, w, F and J of a diagram, and each rounded down.
-ghost use Rattle.std.specs.Prelude.{◌≡◌, true};
+ghost use Rattle.std.specs.Prelude.{◌≡◌, ℕ, ◌<◌, ◌^◌, true};
 ghost use Rattle.calibrate_rows.specs.RowNumbers.{speed_share, row_values, row_numbers, value_fits};
 ghost use Rattle.calibrate_rows.specs.Private.{LargestNotAbove, EachFits};
 
@@ -25,10 +25,9 @@ pub(crate) fn row_values(diagram: Diagram, period: u32, cell: f64) -> RowValues
     }
 }
 
-// The largest whole number not above x, for an x from 1 to 4,000,000.
+// The largest whole number not above x, for an x from 1 to a limit that fits.
 fn rounded_down(x: f64) -> u32
-    requires { value_fits 4_000_000 x ≡ true }
-    ensures { LargestNotAbove x result }
+    ensures { (limit : ℕ) → 0 < limit → limit < 2 ^ 32 → value_fits limit x ≡ true → LargestNotAbove x result }
 {
     num::saturating_f64_to_u32(x)
 }

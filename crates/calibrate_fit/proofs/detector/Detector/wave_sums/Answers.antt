@@ -5,17 +5,13 @@ use Rattle.calibrate_fit.proofs.detector.Detector.wave_sums.Goals as goal
 
 pub loop-i-init : goal.loop-i-init
 unfolding of_bits of_int
-loop-i-init c = (begins _ _ _ _, begins _ _ _ _)
+loop-i-init c = (begins, begins)
 
 pub loop-i-preserved : goal.loop-i-preserved
-loop-i-preserved c = let self = c.args.self.now in
-    let read = c.sample-sample.ensures in (
-      goes_on self.settings self.flow.now self.occupancy.now c.loop-i.invariant.0 c.loop-i-test.true (le_refl _) read c.pick-top.ensures,
-      goes_on self.settings self.flow.now self.occupancy.now c.loop-i.invariant.1 c.loop-i-test.true (le_refl _) read c.pick-bottom.ensures,
-    )
+loop-i-preserved c = (
+  goes_on c.loop-i.invariant.0 c.loop-i-test.true (le_refl _) c.sample-sample.ensures c.pick-top.ensures,
+  goes_on c.loop-i.invariant.1 c.loop-i-test.true (le_refl _) c.sample-sample.ensures c.pick-bottom.ensures,
+)
 
 pub returns : goal.returns
-returns c = let self = c.args.self.now in
-    ap₂ sums_of
-    (ends_whole self.settings self.flow.now self.occupancy.now c.loop-i.invariant.0 c.loop-i-test.false)
-    (ends_whole self.settings self.flow.now self.occupancy.now c.loop-i.invariant.1 c.loop-i-test.false)
+returns c = ap₂ sums_of (ends_whole c.loop-i.invariant.0 c.loop-i-test.false) (ends_whole c.loop-i.invariant.1 c.loop-i-test.false)
