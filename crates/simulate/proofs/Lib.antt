@@ -1,3 +1,2 @@
-pub mod Spaces
 pub mod Reading
 pub mod Going

@@ -3,47 +3,50 @@
 // written is decided by the functions of `program_files` and `program_steps`, and what one call answers is handed to the next.
 #![tactic(auto)]
 
-ghost use Rattle.std.specs.Prelude.{◌≡◌, ◌≤◌, length, []};
+ghost use Rattle.std.specs.Prelude.{◌≡◌, ◌≤◌, length, [], IfErr};
 ghost use Rattle.text_scans.specs.Scans.{begin};
 ghost use Rattle.layout.specs.Layout.{MOST};
 ghost use Rattle.layout.specs.Corridor.{corridor_of};
 ghost use Rattle.period.specs.Sharing.{asymmetric};
-ghost use Rattle.simulate.specs.Private.{SomeRead, FileRead, Goes, GoesOn};
+ghost use Rattle.simulate.specs.Private.{FileRead, at_end, Goes, GoesOn};
+ghost use Rattle.simulate.specs.declared.Failure.{Failure};
 
-use layout::sheet::{sheet_length, sheet_space};
+use layout::sheet::{SHEET_ROOM, sheet_length};
 use layout::{
-    demand_length, demand_space, state_length, state_space, table_length, table_space, width,
+    DEMAND_ROOM, STATE_ROOM, TABLE_ROOM, demand_length, space, state_length, table_length, width,
 };
-use program_files::{File, Found, Reading, Stop};
+use program_files::{Stop, Unread};
 use program_steps::{Run, demand, lines};
 use refusals::Refusal;
-use std::fs::File as OpenFile;
+use std::fs::File;
 use std::io::{Error, Read};
 use std::rt::Files;
-use text_digits::Written;
 use text_scans::Scan;
 
-// What one read of a file came to.
-#[derive(Drop)]
-pub enum Got {
-    More(Reading),
-    End,
-    Lost,
+// The period that is being tried, and where the reading of its record stands.
+#[derive(Clone, Copy)]
+pub struct Attempt {
+    pub k: usize,
+    pub scan: Scan,
 }
 
-// How the demand goes on.
-#[derive(Drop)]
-pub enum Next {
-    // Period k is being tried, and the reading stands here.
-    On { k: usize, scan: Scan },
-    // The last line is written.
-    Over,
-    // It can't be read on.
-    Lost,
+// Why the demand is not followed to its end.
+#[derive(Clone, Copy)]
+pub enum Failure {
+    // It can't be read on while this period is tried.
+    Lost(usize),
     // The output can't be written on.
     Shut,
     // The lists are not those of a run, which never comes to be.
     Refused(Refusal),
+}
+
+impl From<Refusal> for Failure {
+    ghost from_gives = { λ refusal failure. failure ≡ Failure.Refused refusal };
+
+    fn from(refusal: Refusal) -> Failure {
+        Failure::Refused(refusal)
+    }
 }
 
 // More than the lines of a period of 512 cells take.
@@ -65,91 +68,42 @@ fn fail(rt: &(impl Eprint + AllocGlobal), what: &str, error: Error) {
 }
 
 // Passes the start of the output on. Where it cannot be written, that is said on standard error.
-fn pass_on(rt: &(impl Print + Eprint + AllocGlobal), out: &[u8], at: usize) -> bool {
-    if at <= out.len() {
-        return match rt.write_all(&out[..at]) {
-            Ok(()) => true,
-            Err(error) => {
-                fail(rt, "standard output", error);
-                false
-            }
-        };
-    }
-    false
-}
-
-// Passes the last lines on. The demand is over also where they cannot be written.
-fn pass_last(rt: &(impl Print + Eprint + AllocGlobal), out: &[u8], at: usize) -> Next
-    ensures { result ≡ Next.Over }
+fn pass_on(rt: &(impl Print + Eprint + AllocGlobal), out: &[u8], at: usize) -> Result<(), Failure>
+    ensures { IfErr result (λ failure. failure ≡ Failure.Shut) }
 {
-    pass_on(rt, out, at);
-    Next::Over
-}
-
-// Passes a line on.
-fn pass_line(rt: &(impl Print + Eprint + AllocGlobal), line: Written, out: &[u8]) -> bool {
-    match line {
-        Written::To(end) => pass_on(rt, out, end),
-        Written::Refused(_) => false,
+    if out.len() < at {
+        return Err(Failure::Shut);
     }
-}
-
-// Ends the program with a refusal's line.
-fn halt(rt: &(impl Print + Eprint + AllocGlobal), stop: Stop, out: &mut [u8]) {
-    let line = lines::stop_line(stop, out);
-    pass_line(rt, line, out);
-}
-
-// One read of a file of records into a list.
-fn read_some(
-    rt: &(impl Eprint + AllocGlobal),
-    file: &mut impl Read,
-    name: &str,
-    fields: usize,
-    reading: Reading,
-    list: &mut [u32],
-) -> Got
-    ensures { SomeRead result fields reading list.old list.new }
-{
-    let mut buffer = [0; 65_536];
-    match file.read(&mut buffer) {
-        Ok(0) => Got::End,
-        Ok(n) => Got::More(program_files::read_on(&buffer[..n], fields, reading, list)),
-        Err(error) => {
-            fail(rt, name, error);
-            Got::Lost
-        }
+    if let Err(error) = rt.write_all(&out[..at]) {
+        fail(rt, "standard output", error);
+        return Err(Failure::Shut);
     }
+    Ok(())
 }
 
-// Reads an open file of records to its end. A loop must end, so it counts its reads down from a number that no file uses up.
+// Reads an open file of records to its end. A loop must end, so it counts as many reads as no file takes.
 fn read_all(
     rt: &(impl Eprint + AllocGlobal),
     file: &mut impl Read,
     name: &str,
     fields: usize,
     list: &mut [u32],
-) -> File
+) -> Result<usize, Unread>
     ensures { FileRead result fields list.old list.new }
 {
+    let mut buffer = [0; 65_536];
     let mut reading = program_files::start();
-    let mut reads = u64::MAX;
-    while 0 < reads {
-        reads -= 1;
-        let got = read_some(rt, file, name, fields, reading, list);
-        match got {
-            Got::More(next) => {
-                reading = next;
-            }
-            Got::End => {
-                return program_files::read_end(fields, reading, list);
-            }
-            Got::Lost => {
-                return File::Lost;
+    'reads: for _ in 0..u64::MAX {
+        match file.read(&mut buffer) {
+            Ok(0) => return program_files::read_end(fields, reading, list),
+            Ok(n) => reading = program_files::read_on(&buffer[..n], fields, reading, list),
+            Err(error) => {
+                fail(rt, name, error);
+                return Err(Unread::Lost);
             }
         }
     }
-    File::Lost
+    Err(Unread::Lost)
 }
 
 // Reads a file of records of so many fields each into a list.
@@ -158,106 +112,71 @@ fn read_file(
     name: &str,
     fields: usize,
     list: &mut [u32],
-) -> File
+) -> Result<usize, Unread>
     ensures { FileRead result fields list.old list.new }
 {
-    match OpenFile::open(rt, name) {
+    match File::open(rt, name) {
         Ok(mut file) => read_all(rt, &mut file, name, fields, list),
         Err(error) => {
             fail(rt, name, error);
-            File::Lost
+            Err(Unread::Lost)
         }
     }
 }
 
-// Follows the demand through a chunk of it, and passes the lines of each call on.
+// Follows the demand through a chunk of it, and passes the lines of each call on. It answers what is tried then, or nothing where the last
+// line is written.
 fn follow_chunk(
     rt: &(impl Print + Eprint + AllocGlobal),
     chunk: &[u8],
-    k: usize,
-    scan: Scan,
+    attempt: Attempt,
     table: &[u32],
     state: &mut [u32],
     row: &mut [u32],
     sheet: &mut [u32],
     out: &mut [u8],
-) -> Next
-    ensures { Goes result asymmetric k scan row.old (corridor_of table.now state.old) sheet.old chunk.now [] row.new (corridor_of table.now state.new) sheet.new out.new }
+) -> Result<Option<Attempt>, Failure>
+    ensures { Goes result asymmetric attempt.k attempt.scan row.old (corridor_of table.now state.old) sheet.old chunk.now [] row.new (corridor_of table.now state.new) sheet.new out.new }
 {
-    let mut k = k;
-    let mut scan = scan;
+    let Attempt { mut k, mut scan } = attempt;
     let mut from = 0;
     while from < chunk.len() {
-        let run = demand::follow(&chunk[from..], k, scan, table, state, row, sheet, out);
-        match run {
+        match demand::follow(&chunk[from..], k, scan, table, state, row, sheet, out)? {
             Run::On {
                 read,
                 k: period,
                 scan: next,
                 at,
             } => {
-                if !pass_on(rt, out, at) {
-                    return Next::Shut;
-                }
+                pass_on(rt, out, at)?;
                 from += read;
                 k = period;
                 scan = next;
             }
-            Run::Over(at) => return pass_last(rt, out, at),
-            Run::Refused(refusal) => return Next::Refused(refusal),
+            Run::Over(at) => {
+                pass_on(rt, out, at)?;
+                return Ok(None);
+            }
         }
     }
-    Next::On { k, scan }
+    Ok(Some(Attempt { k, scan }))
 }
 
 // The demand ends, and its last lines are passed on.
 fn end_demand(
     rt: &(impl Print + Eprint + AllocGlobal),
-    k: usize,
-    scan: Scan,
+    attempt: Attempt,
     table: &[u32],
     state: &mut [u32],
     row: &mut [u32],
     sheet: &mut [u32],
     out: &mut [u8],
-) -> Next
-    ensures { Goes result asymmetric k scan row.old (corridor_of table.now state.old) sheet.old [] [] row.new (corridor_of table.now state.new) sheet.new out.new }
+) -> Result<(), Failure>
+    ensures { Goes (at_end result) asymmetric attempt.k attempt.scan row.old (corridor_of table.now state.old) sheet.old [] [] row.new (corridor_of table.now state.new) sheet.new out.new }
 {
-    let run = demand::end(k, scan, table, state, row, sheet, out);
-    match run {
-        Run::Over(at) => pass_last(rt, out, at),
-        Run::On {
-            read: _,
-            k: _,
-            scan: _,
-            at: _,
-        } => Next::Shut,
-        Run::Refused(refusal) => Next::Refused(refusal),
-    }
-}
-
-// One read of the demand.
-fn follow_some(
-    rt: &(impl Print + Eprint + AllocGlobal),
-    file: &mut impl Read,
-    k: usize,
-    scan: Scan,
-    table: &[u32],
-    state: &mut [u32],
-    row: &mut [u32],
-    sheet: &mut [u32],
-    out: &mut [u8],
-) -> Next
-    ensures { GoesOn result asymmetric k scan row.old (corridor_of table.now state.old) sheet.old row.new (corridor_of table.now state.new) sheet.new out.new }
-{
-    let mut buffer = [0; 65_536];
-    match file.read(&mut buffer) {
-        Ok(0) => end_demand(rt, k, scan, table, state, row, sheet, out),
-        Ok(n) => follow_chunk(rt, &buffer[..n], k, scan, table, state, row, sheet, out),
-        Err(error) => {
-            fail(rt, "demand.csv", error);
-            Next::Lost
-        }
+    match demand::end(attempt.k, attempt.scan, table, state, row, sheet, out)? {
+        Run::Over(at) => pass_on(rt, out, at),
+        Run::On { .. } => Err(Failure::Shut),
     }
 }
 
@@ -270,46 +189,30 @@ fn run_demand(
     row: &mut [u32],
     sheet: &mut [u32],
     out: &mut [u8],
-) -> Next
-    ensures { GoesOn result asymmetric 1 begin row.old (corridor_of table.now state.old) sheet.old row.new (corridor_of table.now state.new) sheet.new out.new }
+) -> Result<(), Failure>
+    ensures { GoesOn (at_end result) asymmetric 1 begin row.old (corridor_of table.now state.old) sheet.old row.new (corridor_of table.now state.new) sheet.new out.new }
 {
-    let mut k = 1;
-    let mut scan = text_scans::begin();
-    let mut reads = u64::MAX;
-    while 0 < reads {
-        reads -= 1;
-        let next = follow_some(rt, file, k, scan, table, state, row, sheet, out);
-        match next {
-            Next::On { k: tried, scan: so } => {
-                k = tried;
-                scan = so;
+    let mut buffer = [0; 65_536];
+    let mut attempt = Attempt {
+        k: 1,
+        scan: text_scans::begin(),
+    };
+    'reads: for _ in 0..u64::MAX {
+        match file.read(&mut buffer) {
+            Ok(0) => return end_demand(rt, attempt, table, state, row, sheet, out),
+            Ok(n) => {
+                match follow_chunk(rt, &buffer[..n], attempt, table, state, row, sheet, out)? {
+                    Some(next) => attempt = next,
+                    None => return Ok(()),
+                }
             }
-            Next::Lost => {
-                return Next::On { k, scan };
-            }
-            Next::Over => {
-                return Next::Over;
-            }
-            Next::Shut => {
-                return Next::Shut;
-            }
-            Next::Refused(refusal) => {
-                return Next::Refused(refusal);
+            Err(error) => {
+                fail(rt, "demand.csv", error);
+                return Err(Failure::Lost(attempt.k));
             }
         }
     }
-    Next::On { k, scan }
-}
-
-// The demand is over, or it could not be read on while a period was tried.
-fn end_run(rt: &(impl Print + Eprint + AllocGlobal), next: Next, out: &mut [u8]) {
-    match next {
-        Next::On { k, scan: _ } => halt(rt, program_files::demand_lost(k), out),
-        Next::Lost => halt(rt, program_files::demand_lost(0), out),
-        Next::Refused(refusal) => halt(rt, program_files::refused_in(0, refusal), out),
-        Next::Over => {}
-        Next::Shut => {}
-    }
+    Err(Failure::Lost(attempt.k))
 }
 
 // The demand, under an accepted table of n cells and an accepted state.
@@ -319,20 +222,19 @@ fn with_state(
     table: &[u32],
     state: &mut [u32],
     out: &mut [u8],
-)
+) -> Result<(), Stop>
     requires { n ≤ MOST }
 {
-    let mut file = match OpenFile::open(rt, "demand.csv") {
+    let mut file = match File::open(rt, "demand.csv") {
         Ok(file) => file,
         Err(error) => {
             fail(rt, "demand.csv", error);
-            halt(rt, program_files::demand_lost(0), out);
-            return;
+            return Err(program_files::demand_lost(0));
         }
     };
-    let mut row = demand_space();
-    let mut sheet = sheet_space();
-    let next = run_demand(
+    let mut row = space::<DEMAND_ROOM>();
+    let mut sheet = space::<SHEET_ROOM>();
+    let ran = run_demand(
         rt,
         &mut file,
         table,
@@ -341,7 +243,11 @@ fn with_state(
         &mut sheet[..sheet_length(n)],
         out,
     );
-    end_run(rt, next, out);
+    match ran {
+        Ok(()) | Err(Failure::Shut) => Ok(()),
+        Err(Failure::Lost(k)) => Err(program_files::demand_lost(k)),
+        Err(Failure::Refused(refusal)) => Err(program_files::refused_in(0, refusal)),
+    }
 }
 
 // The state, under a table of n cells.
@@ -350,32 +256,43 @@ fn with_cells(
     n: usize,
     table: &[u32],
     out: &mut [u8],
-)
+) -> Result<(), Stop>
     requires { n ≤ MOST }
 {
-    let mut space = state_space();
+    let mut room = space::<STATE_ROOM>();
     let fields = state_length(n);
-    let state: &mut [u32] = &mut space[..fields];
+    let state: &mut [u32] = &mut room[..fields];
     let file = read_file(rt, "state.csv", fields, state);
-    let found = program_files::state_found(file, table, state);
-    match found {
-        Found::Go(_) => with_state(rt, n, table, state, out),
-        Found::Halt(stop) => halt(rt, stop, out),
-    }
+    program_files::state_found(file, table, state)?;
+    with_state(rt, n, table, state, out)
 }
 
-// The header, the cells, then what follows from them.
+// The cells, then what follows from them. The refusal that ends the program is its answer.
+fn run(rt: &(impl Print + Eprint + AllocGlobal + Files), out: &mut [u8]) -> Result<(), Stop> {
+    let mut table = space::<TABLE_ROOM>();
+    let file = read_file(rt, "cells.csv", width(), &mut table);
+    let n = program_files::cells_found(file)?;
+    with_cells(rt, n, &table[..table_length(n)], out)
+}
+
+// Passes a line on that stands at the start of the output.
+fn pass_line(
+    rt: &(impl Print + Eprint + AllocGlobal),
+    line: Result<usize, Refusal>,
+    out: &[u8],
+) -> Result<(), Failure> {
+    pass_on(rt, out, line?)
+}
+
+// The header, the flow sheet, and the line of a refusal.
 fn main(rt: HostRuntime) {
-    let mut table = table_space();
     let mut out = out_space();
     let header = lines::header(&mut out);
-    if !pass_line(&rt, header, &out) {
+    if pass_line(&rt, header, &out).is_err() {
         return;
     }
-    let file = read_file(&rt, "cells.csv", width(), &mut table);
-    let found = program_files::cells_found(file);
-    match found {
-        Found::Go(n) => with_cells(&rt, n, &table[..table_length(n)], &mut out),
-        Found::Halt(stop) => halt(&rt, stop, &mut out),
+    if let Err(stop) = run(&rt, &mut out) {
+        let line = lines::stop_line(stop, &mut out);
+        let _passed = pass_line(&rt, line, &out);
     }
 }
