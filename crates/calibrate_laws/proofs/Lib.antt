@@ -2,3 +2,4 @@ pub mod Signs
 pub mod NoNan
 pub mod Calibrated
 pub mod WorkedCase
+pub mod Exponents

@@ -32,6 +32,7 @@ use Rattle.calibrate_fit.specs.Calibration.{calibration_checks, fitted_diagram, 
 use Rattle.figwimple.specs.Words.{PLACES, ANSWERS, word_of}
 use Rattle.figwimple.specs.Private.{COUNTS, Placed}
 use Rattle.figwimple.specs.Calls.{PeriodCalled, RunCalled, ChangeCalled, five_of, four_of, results_fit, CalibrateCalled}
+use Rattle.calibrate_rows.proofs.Answers.{asked_by, refused_by}
 use Rattle.figwimple.proofs.Places.{calibration_placed}
 
 -- Words
@@ -117,14 +118,6 @@ change_called done e =
 
 -- Calibrations
 
-not_calibrated_by : (a : Answer) (diagram : Diagram) (values : RowValues) {refusal : Refusal} → Err refusal ≡ calibrated_as a diagram values → Err refusal ≡ a
-not_calibrated_by (Ok done) diagram values e = cc
-not_calibrated_by (Err r) diagram values e = cc
-
-calibrated_by : (a : Answer) (diagram : Diagram) (values : RowValues) {found : Calibrated} → Ok found ≡ calibrated_as a diagram values → (accepted ≡ a) × ((found.diagram ≡ diagram) × (found.row ≡ row_numbers values))
-calibrated_by (Ok done) diagram values e = (refl, (cc, cc))
-calibrated_by (Err r) diagram values e = (cc, (cc, cc))
-
 module _ (settings : Settings) (flow occupancy diagram : List Float) (row : List ℕ) {fits : Bool} (test : fits ≡ results_fit diagram row) where
   pub results_refused : fits ≡ false → {word : ℕ} → word ≡ word_of 0 (Err Length) → CalibrateCalled settings flow occupancy diagram row word diagram row
   results_refused fails e =
@@ -142,9 +135,13 @@ module _ (settings : Settings) (flow occupancy diagram : List Float) (row : List
     row_length = eqb-true _ _ (both_hold (eqb (length diagram) 5) (eqb (length row) 4) fit).1
 
     module _ {found : Result Calibrated Refusal} (is : found ≡ calibration_of settings flow occupancy) where
+      abbrev asked : Calibrated
+      asked =
+          record { diagram = fitted_diagram settings flow occupancy; row = row_numbers (fitted_values settings flow occupancy) }
+
       refusal_is : {refusal : Refusal} → found ≡ Err refusal → Err refusal ≡ answer (calibration_checks settings flow occupancy)
       refusal_is e =
-          not_calibrated_by (answer (calibration_checks settings flow occupancy)) (fitted_diagram settings flow occupancy) (fitted_values settings flow occupancy) (sym e ∙ is)
+          refused_by (answer (calibration_checks settings flow occupancy)) asked (sym e ∙ is)
 
       pub refusal_placed : {refusal : Refusal} → found ≡ Err refusal → Placed (Err refusal)
       refusal_placed e = fits_as (refusal_is e) (calibration_placed settings flow occupancy)
@@ -159,9 +156,9 @@ module _ (settings : Settings) (flow occupancy diagram : List Float) (row : List
 
       pub calibrate_done : {made : Calibrated} {diagram_left : List Float} {row_left : List ℕ} → found ≡ Ok made → diagram_left ≡ five_of made.diagram → row_left ≡ four_of made.row → CalibrateCalled settings flow occupancy diagram row 0 diagram_left row_left
       calibrate_done e five four =
-          let told = calibrated_by (answer (calibration_checks settings flow occupancy)) (fitted_diagram settings flow occupancy) (fitted_values settings flow occupancy) (sym e ∙ is) in
+          let told = asked_by (answer (calibration_checks settings flow occupancy)) asked (sym e ∙ is) in
           record {
             answered = rw (fit, ← told.0);
-            leaves_diagram = rw (fit, ← told.0) (five ∙ ap five_of told.1.0);
-            leaves_row = rw (fit, ← told.0) (four ∙ ap four_of told.1.1);
+            leaves_diagram = rw (fit, ← told.0) (five ∙ ap (λ made. five_of made.diagram) told.1);
+            leaves_row = rw (fit, ← told.0) (four ∙ ap (λ made. four_of made.row) told.1);
           }

@@ -7,10 +7,10 @@ use native.Mathlib.Omega.{arith}
 use borrow.Author.Tests.{lt-ltb, le-ltb, ltb-false, not-true, not-false}
 use lib.Dec.{ltb}
 use Rattle.whole.specs.Search.{pick}
-use Rattle.whole.proofs.Search.{FirstFailing, Passes, first_is, all_pass, none_fails}
+use Rattle.whole.proofs.Search.{Passes, first_is, all_pass, none_fails}
 use Rattle.refusals.specs.declared.Refusal.{Refusal}
 use Rattle.refusals.specs.declared.Refusal.TheVariants.{Length}
-use Rattle.std.specs.Prelude.{Some, None, Ok, Err}
+use Rattle.std.specs.Prelude.{Ok, Err}
 use Rattle.std.specs.Result.{IsErr, IsErrAnd}
 use Rattle.std.proofs.lemmas.Result.{err_from_is_err_and}
 use Rattle.refusals.specs.Checks.{Answer, accepted, Check, least, or_later, answer, lengths}
@@ -27,13 +27,6 @@ stops check later e h = rw (lt-ltb (least check) check.places (rw e at h)) (ap (
 pub passes : (check : Check) {a later : Answer} {at : ℕ} → at ≡ least check → check.places ≤ at → a ≡ later → a ≡ or_later check later
 unfolding or_later
 passes check e h next = rw (le-ltb (least check) check.places (rw e at h)) next
-
--- the same of a check by itself, whose places a search went over
-pub first_refused : (check : Check) {at : ℕ} → FirstFailing check.places check.test (Some at) → Err (check.refusal at) ≡ answer (check ∷ [])
-first_refused check found = stops check accepted found.is.0 found.is.1
-
-pub none_refused : (check : Check) → FirstFailing check.places check.test None → accepted ≡ answer (check ∷ [])
-none_refused check all = passes check refl all.is refl
 
 -- the same from the answer of one check by itself
 pub one_stops : (check : Check) (later : Answer) {refusal : Refusal} → Err refusal ≡ answer (check ∷ []) → Err refusal ≡ or_later check later

@@ -74,6 +74,12 @@ impl Refusal {
 
 // As the programs print it.
 impl fmt::Display for Refusal {
+    ghost use Rattle.std.specs.Prelude.{Some, ◌++◌, codes};
+    ghost use Rattle.std.specs.Fmt.{decimal};
+    ghost use Rattle.refusals.specs.Refusals.{number_of, place_of};
+
+    ghost output = { λ refusal. Some (codes "refused " ++ decimal (number_of refusal) ++ codes " at " ++ decimal (place_of refusal)) };
+
     fn fmt<W: fmt::Write>(&self, f: &mut fmt::Formatter<W>) -> fmt::Result {
         let number = self.number();
         let place = self.place();

@@ -108,34 +108,8 @@ passes_every n test e k h = by (test k) refl
     by true at = at
     by false at = absurd (false≢true (sym (every_fails n test k h at) ∙ e))
 
-pub every_found : {places n i : ℕ} {test : ℕ → Bool} {r : Bool} → Searching places test n i → i < n → r ≡ test i → not r ≡ true → false ≡ every places test
-every_found {places} {i = i} {test} at h e fails = sym (every_fails places test i (omega (arith, at.whole)) (sym e ∙ not-true _ fails))
-
-pub every_ends : {places n i : ℕ} {test : ℕ → Bool} → Searching places test n i → n ≤ i → true ≡ every places test
-every_ends {places} {test = test} at ends = sym (every_passes places test λ k h. at.passed k (omega (arith, at.whole)))
-
--- What a search by an iterator over the indices below n gives, where its closure f, called at an index, says what the test says and stays as
--- it is: `find`, asked for one that fails, the least; `all` what `every` says
-
-pub record FirstFailing (places : ℕ) (test : ℕ → Bool) (r : Option ℕ) : Type 0 where
-  pub is : MatchOption r (places ≤ first_failing places test) (λ i. (i ≡ first_failing places test) × (i < places))
-
-pub found_first : {F : Type 0} {g : Mut F (Bor ℕ × Unit {0}) Bool} {f : F} {n places : ℕ} {test : ℕ → Bool} {r : Option ℕ} (u : Range ℕ) → n ≡ places
-    → (xs : List ℕ) × (j : F) × YieldsThen nat_range_steps (record { start = 0; end = n }) xs r u × FoldsTo (λ p x q. CalledAt g p x false q) f xs j × MatchOption r ⊤ (λ x. (h : F) × CalledAt g j x true h)
-    → ((x : ℕ) (b : Bool) (q : F) → CalledAt g f x b q → (q ≡ f) × (b ≡ not (test x)))
-    → FirstFailing places test r
-found_first {n = n} {test = test} {r = r} u e ran tells =
-    rw (← e)
-    (record {
-      is =
-          by r
-          (first_from_Range _ u _ r (λ x. test x ≡ false) (λ x. test x ≡ true) ran (λ x q k. not-true _ (sym (tells x true q k).1)) (λ x q k. ((tells x false q k).0, not-false _ (sym (tells x false q k).1))));
-    })
-  where
-    by : (r : Option ℕ) → MatchOption r ((k : ℕ) → 0 ≤ k → k < n → test k ≡ true) (λ i. (0 ≤ i) × (i < n) × (test i ≡ false) × ((k : ℕ) → 0 ≤ k → k < i → test k ≡ true))
-        → MatchOption r (n ≤ first_failing n test) (λ i. (i ≡ first_failing n test) × (i < n))
-    by None all = omega (arith, none_fails n test (λ k h. all k zero-le h))
-    by (Some i) first = (first_is n test i (record { reaches = omega arith; before = λ k. first.3 k zero-le; fails = λ _. first.2 }), first.1)
+-- What `all` over the indices below n answers, where its closure f, called at an index, says what the test says and stays as it is: what
+-- `every` says
 
 every_from : (n : ℕ) (test : ℕ → Bool) → every (suc n) test ≡ (test zero && every n (λ k. test (suc k)))
 every_from zero test = sym (and-true (test zero))
