@@ -1,2 +1,3 @@
 pub mod Acceptance
 pub mod Vehicles
+pub mod Rows

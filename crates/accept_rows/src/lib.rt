@@ -11,7 +11,7 @@ ghost use Rattle.layout.specs.Corridor.{corridor_of};
 mod checks;
 
 use accept_tables::{accept_table, table_length_fits};
-use checks::{demand_in_range, demand_passes, queues_hold, state_in_range};
+use checks::{DemandRow, state_in_range};
 use layout::{cells, demand_length, state_length};
 use refusals::Refusal;
 
@@ -39,18 +39,18 @@ fn state_numbers(table: &[u32], state: &[u32]) -> Result<(), Refusal>
     state_in_range(table, state)
 }
 
-// Numbers 6 and 7. A row that nothing refuses, the usual one, is walked over once.
-#[tactic(auto, using(refusals::proofs::Answers::in_their_order))]
+// Numbers 6 and 7, where the lengths fit.
 fn demand_numbers(table: &[u32], state: &[u32], demand: &[u32]) -> Result<(), Refusal>
-    requires state_len { length state.now ≡ state_length (cells table.now) }
-    requires demand_len { length demand.now ≡ demand_length (cells table.now) }
+    requires { row_lengths_fit (corridor_of table.now state.now) demand.now ≡ true }
     ensures { result ≡ answer (demand_numbers (corridor_of table.now state.now) demand.now) }
 {
-    if demand_passes(table, state, demand) {
-        return Ok(());
-    }
-    demand_in_range(table, demand)?;
-    queues_hold(table, state, demand)
+    let row = DemandRow {
+        n: cells(table),
+        table,
+        state,
+        demand,
+    };
+    row.numbers()
 }
 
 // Whether a state is accepted under a table: numbers 1 to 5.
