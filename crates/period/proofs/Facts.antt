@@ -1,7 +1,7 @@
 -- What an accepted period is known to start from. Assumes nothing.
 use mathlib.Core.Path.{◌≡◌}
 use mathlib.Core.List.{List, [], ◌∷◌}
-use Prim.Native.Nat.{ℕ, ◌-◌, ◌<◌}
+use Prim.Native.Nat.{ℕ, ◌<◌}
 use lib.ListN.{length}
 use native.Mathlib.Omega.{arith}
 use Rattle.layout.specs.Layout.{state_length, demand_length}
@@ -15,6 +15,8 @@ use Rattle.accept_tables.proofs.Accepted.{TableFits, table_fits}
 use Rattle.accept_rows.proofs.Accepted.{StateFits, RowFits, state_fits_lem, row_fits}
 use Rattle.period.specs.Period.{RowAccepted}
 use Rattle.period.specs.Private.{Workable}
+use Rattle.period.specs.declared.passes.Start.{Start}
+use Rattle.period.specs.Starts.{corridor}
 use Rattle.layout.specs.Corridor.{Corridor, cells_of, row_of}
 
 pub record Facts (c : Corridor) (demand : List ℕ) : Type 0 where
@@ -57,5 +59,6 @@ workable {c} {i = i} known all h =
       count = (known.s.cells i h).count;
     }
 
-pub last_workable : {n : ℕ} (c : Corridor) (demand : List ℕ) → RowAccepted c demand → n ≡ cells_of c → Workable n c demand (n - 1)
-last_workable c demand e all = workable (facts c demand e) all (omega (arith, some_cell c demand e all))
+-- the same where a period starts
+pub works : (start : Start) {i : ℕ} → i < start.n → Workable start.n (corridor start) start.demand.now i
+works start h = workable (facts (corridor start) start.demand.now start.row_accepted) start.all (omega (arith, start.all))

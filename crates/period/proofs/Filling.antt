@@ -9,9 +9,8 @@ use Rattle.layout.specs.Sheet.{sheet_length, sheet_from}
 use Rattle.layout.specs.Corridor.{Corridor, cells_of}
 use Rattle.layout.proofs.Sheets.{Sheeting, nothing_stored, flow_stored, off_stored, on_stored, mode_stored, is_sheet}
 use Rattle.period.specs.Sharing.{Sharing}
-use Rattle.period.specs.Period.{RowAccepted, flow_at, off_flow_at, on_flow_at, mode_at, sheet_of}
-use Rattle.period.specs.Private.{node_passed, cell_sent, cell_passed, last_passed, Workable}
-use Rattle.period.proofs.Facts.{Facts, facts, workable}
+use Rattle.period.specs.Period.{flow_at, off_flow_at, on_flow_at, mode_at, sheet_of}
+use Rattle.period.specs.Private.{node_passed, cell_sent, cell_passed, last_passed}
 
 module _ (way : Sharing) (c : Corridor) (demand : List ℕ) where
   -- of n cells, by how far each column is stored
@@ -20,7 +19,6 @@ module _ (way : Sharing) (c : Corridor) (demand : List ℕ) where
 
   pub record FlowsFrom (n : ℕ) (sheet : List ℕ) (i : ℕ) : Type 0 where
     pub all : n ≡ cells_of c
-    pub known : Facts c demand
     pub inside : i < n
     pub stored : Stored n (suc i) i (suc i) i sheet
 
@@ -41,29 +39,19 @@ module _ (way : Sharing) (c : Corridor) (demand : List ℕ) where
         let none : Stored n (suc (suc i)) (suc i) (suc i) (suc i) sheet = rw last so in
         off_stored n _ _ _ _ (mode_stored n _ _ _ _ (flow_stored n _ _ _ _ none (omega arith) refl) (omega arith) refl) (omega arith) refl
 
-  pub begins : {n i : ℕ} (sheet : List ℕ) {sheet' : List ℕ} → RowAccepted c demand → n ≡ cells_of c → suc i ≡ n → length sheet ≡ sheet_length (cells_of c) → sheet' ≡ last_passed way c demand n sheet i → FlowsFrom n sheet' i
-  begins {n} {i} sheet accepted all last len passed =
+  pub begins : {n i : ℕ} (sheet : List ℕ) {sheet' : List ℕ} → n ≡ cells_of c → suc i ≡ n → length sheet ≡ sheet_length (cells_of c) → sheet' ≡ last_passed way c demand n sheet i → FlowsFrom n sheet' i
+  begins {n} {i} sheet all last len passed =
       record {
         all = all;
-        known = facts c demand accepted;
         inside = omega arith;
         stored = rw passed (last_fills n sheet i last (nothing_stored n _ _ _ _ (rw all len)));
       }
-
-  -- what the next cell up the road asks, and what the entry asks
-  pub next_asks : {n i : ℕ} {sheet : List ℕ} → FlowsFrom n sheet i → 0 < i → Workable n c demand (i - 1) × Workable n c demand (suc (i - 1))
-  next_asks so some =
-      (workable so.known so.all (omega (arith, so.all, so.inside)), workable so.known so.all (omega (arith, so.all, so.inside)))
-
-  pub entry_asks : {n i : ℕ} {sheet : List ℕ} → FlowsFrom n sheet i → Workable n c demand 0
-  entry_asks so = workable so.known so.all (omega (arith, so.all, so.inside))
 
   pub goes_on : {n i : ℕ} {sheet sheet' : List ℕ} → FlowsFrom n sheet i → 0 < i → sheet' ≡ cell_passed way c demand n sheet (i - 1) → FlowsFrom n sheet' (i - 1)
   goes_on {n} {i} {sheet} so some passed =
       let below : suc (i - 1) ≡ i = omega arith in
       record {
         all = so.all;
-        known = so.known;
         inside = omega (arith, so.inside);
         stored = rw passed (cell_fills n sheet (i - 1) (omega (arith, so.inside)) (rw below so.stored));
       }

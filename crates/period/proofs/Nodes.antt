@@ -16,6 +16,9 @@ use Rattle.period.specs.Cell.{M, off_flow, mode_of}
 use Rattle.period.specs.Sharing.{Sharing}
 use Rattle.period.specs.Fair.{Fair}
 use Rattle.period.specs.Period.{capacity_now, sent_at, offer_at, ramp_offer_at, node_at, flow_at, off_flow_at, mode_at}
+use Rattle.period.specs.declared.passes.Start.{Start}
+use Rattle.period.specs.Starts.{corridor}
+use Rattle.period.proofs.Facts.{works}
 use Rattle.period.specs.Private.{node_passed, cell_sent, cell_passed, last_passed, Workable}
 
 module _ (way : Sharing) (c : Corridor) (demand : List ℕ) where
@@ -108,24 +111,31 @@ pub record CellRead (n : ℕ) (c : Corridor) (demand : List ℕ) (i : ℕ) (row 
   pub is_row : row ≡ row_of c i
   pub is_count : count ≡ count_of c i
 
+-- what is read of a cell where a period starts
+pub read : (start : Start) {i count : ℕ} {row : Row} → i < start.n → row ≡ row_of (corridor start) i → count ≡ count_of (corridor start) i → CellRead start.n (corridor start) start.demand.now i row count
+read start inside row count = record { known = works start inside; is_row = row; is_count = count }
+
 -- serves for the cell
-module _ {n i count : ℕ} {c : Corridor} {demand : List ℕ} {row : Row} (read : CellRead n c demand i row count) where
+module _ {n i count : ℕ} {c : Corridor} {demand : List ℕ} {row : Row} (here : CellRead n c demand i row count) where
   pub v_fits : row.v ≤ 65_536
-  v_fits = rw read.is_row read.known.v
+  v_fits = rw here.is_row here.known.v
 
   pub b_fits : row.b < 65_536
-  b_fits = rw read.is_row read.known.b
+  b_fits = rw here.is_row here.known.b
+
+  pub count_fits : count ≤ row.jam
+  count_fits = rw (here.is_row, here.is_count) here.known.count
 
   pub sent_is : {o m : ℕ} → o ≡ off_demand_at n demand i → m ≡ M row count o → m ≡ sent_at c demand i
-  sent_is o m = m ∙ rw (read.is_row, read.is_count, o, read.known.all)
+  sent_is o m = m ∙ rw (here.is_row, here.is_count, o, here.known.all)
 
   pub off_flow_is : (way : Sharing) {o f s : ℕ} → o ≡ off_demand_at n demand i → f ≡ flow_at way c demand (suc i) → s ≡ off_flow row count o f → s ≡ off_flow_at way c demand i
   unfolding off_flow_at
-  off_flow_is way o f s = s ∙ rw (read.is_row, read.is_count, o, f, read.known.all)
+  off_flow_is way o f s = s ∙ rw (here.is_row, here.is_count, o, f, here.known.all)
 
   -- f is at most M
   pub is_of_sent : (way : Sharing) {o f : ℕ} → Fair way → o ≡ off_demand_at n demand i → f ≡ flow_at way c demand (suc i) → f ≤ M row count o
-  is_of_sent way fair o f = rw (f, read.is_row, read.is_count, o, read.known.all) (flow_of_sent way fair c demand i)
+  is_of_sent way fair o f = rw (f, here.is_row, here.is_count, o, here.known.all) (flow_of_sent way fair c demand i)
 
   -- what leaves by its off-ramp is stored
   pub off_stored : (way : Sharing) (sheet : List ℕ) {o f s : ℕ} {before after : List ℕ} → o ≡ off_demand_at n demand i

@@ -4,3 +4,4 @@ pub mod Fair
 pub mod Updated
 pub mod Period
 pub mod Private
+pub mod Starts

@@ -26,12 +26,6 @@ module _ (way : Sharing) (c : Corridor) (demand : List ℕ) (n : ℕ) (sheet : L
   last_passed i =
       with_off_flow n (with_mode n (with_flow sheet (suc i) (flow_at way c demand (suc i))) i (mode_at way c demand i)) i (off_flow_at way c demand i)
 
--- what reading the cell of index i, one of n, asks of the corridor
-pub record Readable (n : ℕ) (c : Corridor) (i : ℕ) : Type 0 where
-  pub all : n ≡ cells_of c
-  pub inside : i < n
-  pub state_len : length c.state ≡ state_length n
-
 -- what the work on the cell of index i, one of n, asks of the corridor and the demand row
 pub record Workable (n : ℕ) (c : Corridor) (demand : List ℕ) (i : ℕ) : Type 0 where
   pub all : n ≡ cells_of c

@@ -15,6 +15,7 @@ mod passes;
 
 use layout::cells;
 use layout::sheet::sheet_length;
+use passes::Start;
 use refusals::Refusal;
 
 // What passes at a node: on the mainline and from the on-ramp, and whether the room there leaves the mainline free.
@@ -48,6 +49,13 @@ pub fn run_accepted(table: &[u32], state: &mut [u32], demand: &[u32], sheet: &mu
     requires sheet_len { length sheet.old ≡ sheet_length (cells table.now) }
     ensures { RowDone asymmetric (corridor_of table.now state.old) demand.now state.new sheet.new }
 {
-    passes::flows(table, state, demand, sheet);
-    passes::bring_up_to_date(cells(table), state, demand, sheet);
+    let n = cells(table);
+    let start = Start {
+        n,
+        table,
+        state,
+        demand,
+    };
+    start.flows(sheet);
+    passes::bring_up_to_date(n, state, demand, sheet);
 }
