@@ -142,7 +142,8 @@ fn put_cells(
     to
 }
 
-// The lines of a period, from the state after it and its sheet.
+// The lines of a period, from the state after it and its sheet. Its loops are quickest where nothing around them wants the registers.
+#[inline(never)]
 pub(crate) fn put_period(
     k: usize,
     n: usize,

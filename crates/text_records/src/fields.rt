@@ -64,7 +64,8 @@ fn whole_field(chunk: &[u8], from: usize, stop: usize) -> Option<Digits>
     after_first(chunk, from + 1, stop, first)
 }
 
-// The fields from an index on, before another index.
+// The fields from an index on, before another index. The loop is quickest where nothing around it wants the registers.
+#[inline(never)]
 fn whole_fields(chunk: &[u8], from: usize, stop: usize, field: usize, row: &mut [u32]) -> Place
     requires { (from ≤ stop) × (stop ≤ length chunk.now) }
     ensures { FieldsRead chunk.now from stop field row.old row.new result }
