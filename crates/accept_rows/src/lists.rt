@@ -7,7 +7,7 @@ ghost use Rattle.accept_rows.specs.Acceptance.{state_lengths_fit, row_lengths_fi
 use accept_ranges::{demand_fits, queue_holds, state_fits};
 use accept_tables::{accept_table, table_length_fits};
 use layout::*;
-use refusals::{Refusal, ask};
+use refusals::Refusal;
 
 // A table and a state.
 #[derive(Clone, Copy)]
@@ -54,11 +54,11 @@ impl<'a> Corridor<'a> {
     pub(crate) fn state_in_range(&self) -> Result<(), Refusal>
         ensures { result ≡ answer (state_in_range (seen self.now) ∷ []) }
     {
-        ask(
-            cells(self.table) + 1,
-            |at| self.state_fits_at(at),
-            Refusal::StateNumber,
-        )
+        let positions = cells(self.table) + 1;
+        match (0..positions).find(|at| !self.state_fits_at(*at)) {
+            Some(at) => Err(Refusal::StateNumber(at)),
+            None => Ok(()),
+        }
     }
 
     // Numbers 2 to 5. The table's length fits, so that its own answer is never its number 1.
@@ -144,7 +144,10 @@ impl<'a> Demand<'a> {
         ensures { result ≡ answer (demand_in_range (seen self.now.corridor) self.now.row.now ∷ []) }
     {
         let positions = cells(self.corridor.table) + 1;
-        ask(positions, |at| self.fits_at(at), Refusal::Demand)
+        match (0..positions).find(|at| !self.fits_at(*at)) {
+            Some(at) => Err(Refusal::Demand(at)),
+            None => Ok(()),
+        }
     }
 
     // Number 7.
@@ -152,7 +155,10 @@ impl<'a> Demand<'a> {
         ensures { result ≡ answer (queues_hold (seen self.now.corridor) self.now.row.now ∷ []) }
     {
         let positions = cells(self.corridor.table) + 1;
-        ask(positions, |at| self.holds_at(at), Refusal::QueueOver)
+        match (0..positions).find(|at| !self.holds_at(*at)) {
+            Some(at) => Err(Refusal::QueueOver(at)),
+            None => Ok(()),
+        }
     }
 
     // Numbers 6 and 7. A row that nothing refuses, the usual one, is walked over once.

@@ -8,28 +8,26 @@ ghost use Rattle.accept_tables.specs.Tables.{rows_in_range, rooms_shared, ramps_
 
 use accept_ranges::{room_shared, row_in_range};
 use layout::{cells, row_at};
-use refusals::{Refusal, ask};
+use refusals::Refusal;
 
 // Number 2.
 pub(crate) fn rows_in_range(table: &[u32]) -> Result<(), Refusal>
     ensures { result ≡ answer (rows_in_range table.now ∷ []) }
 {
-    ask(
-        cells(table),
-        |i| row_in_range(row_at(table, i)),
-        |i| Refusal::TableNumber(i + 1),
-    )
+    match (0..cells(table)).find(|i| !row_in_range(row_at(table, *i))) {
+        Some(i) => Err(Refusal::TableNumber(i + 1)),
+        None => Ok(()),
+    }
 }
 
 // Number 3.
 pub(crate) fn rooms_shared(table: &[u32]) -> Result<(), Refusal>
     ensures { result ≡ answer (rooms_shared table.now ∷ []) }
 {
-    ask(
-        cells(table),
-        |i| room_shared(row_at(table, i)),
-        |i| Refusal::RoomShares(i + 1),
-    )
+    match (0..cells(table)).find(|i| !room_shared(row_at(table, *i))) {
+        Some(i) => Err(Refusal::RoomShares(i + 1)),
+        None => Ok(()),
+    }
 }
 
 // Puts a ramp number's mark up, and answers whether it was up already: bit by bit, in words of 64. Number 0 is no ramp and has no mark.

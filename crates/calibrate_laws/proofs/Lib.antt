@@ -2,4 +2,3 @@ pub mod Signs
 pub mod NoNan
 pub mod Calibrated
 pub mod WorkedCase
-pub mod Exponents

@@ -1,3 +1,4 @@
 pub mod Rounding
+pub mod Exponents
 pub mod Answers
 pub mod Settled

@@ -1,6 +1,6 @@
 -- Rounding down: what the limits of a row value say over whole numbers, which doubles have a largest whole number not above
 -- them, and that a double's whole part is it. Assumes nothing.
-use Rattle.std.proofs.Common.{◌≡◌, ℕ, ◌+◌, ◌-◌, ◌*◌, ◌/◌, ◌^◌, ◌<◌, ◌≤◌, min, Bool, true, false, ◌||◌, T, eqb, ltb, ◌⊎◌, ℤ, sym, refl, subst, inl, inr, le_trans, le_of_lt, mul_comm, le-div_iff_mul-le, arith, lit<, lit≤, ltb-true, eq-eqb, eqb-true}
+use Rattle.std.proofs.Common.{◌≡◌, ℕ, ◌+◌, ◌-◌, ◌*◌, ◌/◌, ◌^◌, ◌<◌, ◌≤◌, min, Bool, true, false, ◌||◌, T, eqb, ltb, ◌⊎◌, ℤ, sym, refl, subst, inl, inr, le_trans, le_of_lt, mul-le-mul_right, mul_comm, le-div_iff_mul-le, arith, lit<, lit≤, ltb-true, eq-eqb, eqb-true}
 use mathlib.Core.Bool.{false≢true}
 use native.Mathlib.Nat.{div-le_of_le-mul, zero-div}
 use lib.Ieee.{Float, nan, inf, fin, binary64, up, down, of_int, to_unsigned, le, lt, eq}
@@ -125,12 +125,28 @@ in_limits limit h p x e =
           (omega (arith, positive.values_of_le x (double limit) (positive.num x) (positive.den x) limit 1 inside (double_positive limit h p) (positive.own_value x inside) (double_value limit h) (yes both.1)));
     }
 
+pub fits_limits : (limit : ℕ) → limit ≤ 2 ^ 53 → 0 < limit → (x : Float) → InLimits limit x → value_fits limit x ≡ true
+fits_limits limit h p x inside =
+    let value = positive.own_value x inside.above_zero in
+    let least : 1 * positive.den x ≤ positive.num x * 1 = omega (arith, rw (numerator_is x, denominator_is x) at inside.least) in
+    let most : positive.num x * 1 ≤ limit * positive.den x = omega (arith, rw (numerator_is x, denominator_is x) at inside.most) in
+    let low = is_true (le (double 1) x) (le_of_values (double 1) x 1 1 (positive.num x) (positive.den x) (lit< tt) (positive.den_pos x) (double_value 1 (lit≤ tt)) value least) in
+    let high = is_true (le x (double limit)) (le_of_values x (double limit) (positive.num x) (positive.den x) limit 1 (positive.den_pos x) (lit< tt) value (double_value limit h) most) in
+    rw (low, high)
+
 -- what is above zero is not negative
 not_negative : (x : Float) → T (positive.positive x) → FiniteNotNegative x
 not_negative nan p = absurd p
 not_negative (inf negative) p = absurd p
 not_negative (fin true m e) p = absurd p
 not_negative (fin false m e) p = with_plus m e
+
+-- a value within a limit is within a larger one
+pub wider : (x : Float) (limit more : ℕ) → 0 < limit → limit ≤ more → more ≤ 2 ^ 53 → value_fits limit x ≡ true → value_fits more x ≡ true
+wider x limit more p le h e =
+    let inside = in_limits limit (le_trans le h) p x e in
+    fits_limits more h (omega arith) x
+    (record { above_zero = inside.above_zero; least = inside.least; most = le_trans inside.most (mul-le-mul_right (denominator x) le) })
 
 -- what is rounded down is at most the limit
 pub rounded_most : (x : Float) (limit : ℕ) → InLimits limit x → rounded_down x ≤ limit

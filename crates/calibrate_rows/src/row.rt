@@ -1,5 +1,7 @@
 // The row values v, w, F and J of a diagram, and each rounded down.
-ghost use Rattle.std.specs.Prelude.{◌≡◌, ℕ, ◌<◌, ◌^◌, true};
+ghost use Rattle.std.specs.Prelude.{◌≡◌, ℕ, ◌<◌, ◌≤◌, ◌/◌, ◌^◌, true};
+ghost use Rattle.std.specs.Int.Bits.{bit_and};
+ghost use lib.Ieee.{binary64, to_bits};
 ghost use Rattle.calibrate_rows.specs.RowNumbers.{speed_share, row_values, row_numbers, value_fits};
 ghost use Rattle.calibrate_rows.specs.Private.{LargestNotAbove, EachFits};
 
@@ -25,9 +27,11 @@ pub(crate) fn row_values(diagram: Diagram, period: u32, cell: f64) -> RowValues
     }
 }
 
-// The largest whole number not above x, for an x from 1 to a limit that fits.
+// The largest whole number not above x, for an x from 1 to a limit that fits. The library shifts the mantissa down by what the exponent,
+// the 11 bits above the mantissa's 52, is short of 1,075. Under the largest limit it never has to shift up.
 fn rounded_down(x: f64) -> u32
-    ensures { (limit : ℕ) → 0 < limit → limit < 2 ^ 32 → value_fits limit x ≡ true → LargestNotAbove x result }
+    ensures largest { (limit : ℕ) → 0 < limit → limit < 2 ^ 32 → value_fits limit x ≡ true → LargestNotAbove x result }
+    ensures shifted_down { value_fits 4_000_000 x ≡ true → bit_and (to_bits binary64 x / 2 ^ 52) 2_047 ≤ 1_075 }
 {
     num::saturating_f64_to_u32(x)
 }

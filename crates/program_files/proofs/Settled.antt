@@ -2,6 +2,7 @@
 -- answers that it allows for the same arguments are equal, and so are two later contents. Assumes nothing.
 use Prim.Native.Nat.{ℕ}
 use mathlib.Core.List.{List}
+use Rattle.std.specs.Prelude.{◌≡◌, Ok}
 use Rattle.whole.proofs.Settles.{Settles, SettlesLists, settled}
 use Rattle.program_files.proofs.start.Kinds as start_kinds
 use Rattle.program_files.proofs.start.Reads as start_reads
@@ -23,7 +24,7 @@ use Rattle.program_files.proofs.refused_in.Kinds as refused_in_kinds
 use Rattle.program_files.proofs.refused_in.Reads as refused_in_reads
 
 pub start_settles : Settles _ start_kinds.ps start_kinds.r start_reads.Learnt
-start_settles κs a y z e f = settled
+start_settles κs a y z e f p q = let same : Ok y ≡ Ok z = settled p q in cc
 
 pub read_on_settles : SettlesLists _ read_on_kinds.ps read_on_kinds.r (List ℕ) (λ κs e. e.1.1.1.0.now) read_on_reads.Learnt
 read_on_settles κs a y z e f p q = (settled p.0 q.0, settled p.1 q.1)

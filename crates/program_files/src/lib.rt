@@ -2,7 +2,7 @@
 // piece into a list, what each file comes to at its end, and the refusal that a broken, missing or refused one ends the program with.
 #![tactic(auto)]
 
-ghost use Rattle.std.specs.Prelude.{◌≡◌, length, set, ◌∷◌, []};
+ghost use Rattle.std.specs.Prelude.{◌≡◌, length, set, ◌∷◌, [], Ok};
 ghost use Rattle.whole.specs.Search.{pick};
 ghost use Rattle.text_scans.specs.Scans.{begin, untouched};
 ghost use Rattle.refusals.specs.Checks.{answer};
@@ -62,14 +62,14 @@ fn put(list: &mut [u32], index: usize, number: u32) -> usize
 }
 
 // Where the reading of a file begins.
-pub fn start() -> Result<Reading, Unread>
-    ensures { result ≡ standing 0 0 begin }
+pub fn start() -> Reading
+    ensures { Ok result ≡ standing 0 0 begin }
 {
-    Ok(Reading {
+    Reading {
         records: 0,
         index: 0,
         scan: text_scans::begin(),
-    })
+    }
 }
 
 // Reads one byte of a file.

@@ -1,9 +1,7 @@
 // A refusal carries its number and its place, and of all checks the lowest number that applies is given, at its smallest place.
 #![tactic(auto)]
 
-ghost use Rattle.std.specs.Prelude.{◌≡◌, ℕ, Bool, ◌<◌, [], ◌∷◌};
-ghost use Rattle.refusals.specs.declared.Refusal.{Refusal};
-ghost use Rattle.refusals.specs.Checks.{Check, answer};
+ghost use Rattle.std.specs.Prelude.{◌≡◌};
 
 use std::error::Error;
 use std::fmt;
@@ -88,25 +86,3 @@ impl fmt::Display for Refusal {
 }
 
 impl Error for Refusal {}
-
-// The answer of a check: the refusal at the least of its places where the test fails, or none.
-pub fn ask<T: Fn(usize) -> bool, R: Fn(usize) -> Refusal>(
-    places: usize,
-    test: T,
-    refusal: R,
-) -> Result<(), Refusal>
-    ghost check: { Check }
-    requires all_places { places ≡ check.places }
-    requires can_test { (k : ℕ) → k < places → T.pre test k }
-    requires tests { (k : ℕ) (b : Bool) → k < places → T.post test k b → b ≡ check.test k }
-    requires can_refuse { (k : ℕ) → k < places → R.pre refusal k }
-    requires gives { (k : ℕ) (r : Refusal) → k < places → R.post refusal k r → r ≡ check.refusal k }
-    ensures { result ≡ answer (check ∷ []) }
-{
-    for place in 0..places {
-        if !test(place) {
-            return Err(refusal(place));
-        }
-    }
-    Ok(())
-}

@@ -4,7 +4,7 @@ use mathlib.Core.Path.{◌≡◌, refl}
 use mathlib.Core.List.{List, [], ◌∷◌, ◌++◌, append_assoc}
 use lib.ListN.{length}
 use Rattle.refusals.specs.declared.Refusal.{Refusal}
-use Rattle.std.specs.Prelude.{Some, None, Result, Ok, Err, IfErr}
+use Rattle.std.specs.Prelude.{Some, None, Result, Ok, Err}
 use Rattle.refusals.specs.Checks.{Answer, accepted, answer}
 use Rattle.layout.specs.Corridor.{Corridor}
 use Rattle.text_scans.specs.Scans.{begin}
@@ -122,12 +122,6 @@ module _ {way : Sharing} {k : ℕ} {scan : Scan} {row : List ℕ} {c : Corridor}
   chunk_goes (Err (Lost k')) chunk goes = record { pieces = chunk ∷ []; goes = (goes.0, next_chunk_leads way k scan row c sheet chunk goes.1) }
   chunk_goes (Err Shut) chunk goes = record { pieces = []; goes = tt }
   chunk_goes (Err (Refused refusal)) chunk goes = record { pieces = chunk ∷ []; goes = led_from goes (next_chunk_leads way k scan row c sheet chunk goes.leads) }
-
--- the last lines are passed on, where they can be
-pub over_goes : {way : Sharing} {k : ℕ} {scan : Scan} {row : List ℕ} {c : Corridor} {sheet left : List ℕ} {pieces : List (List ℕ)} {row' : List ℕ} {c' : Corridor} {sheet' out' : List ℕ} (passed : Result Unit Failure) → IfErr passed (λ failure. failure ≡ Shut)
-    → Closes accepted way k scan row c sheet left pieces row' c' sheet' out' → Goes (at_end passed) way k scan row c sheet left pieces row' c' sheet' out'
-over_goes (Ok done) told closes = closes
-over_goes (Err failure) told closes = rw told tt
 
 -- the reads from period 1 on
 module _ (way : Sharing) (row : List ℕ) (c : Corridor) (sheet : List ℕ) where

@@ -6,12 +6,13 @@ use Rattle.std.proofs.lemmas.List.Edits.{sets}
 use Rattle.refusals.specs.declared.Refusal.{Refusal}
 use Rattle.refusals.specs.Checks.{Answer, accepted, answer}
 use Rattle.layout.specs.Corridor.{Corridor}
+use Rattle.text_scans.specs.Scans.{begin}
 use Rattle.text_scans.specs.declared.Scan.{Scan}
 use Rattle.period.specs.Sharing.{Sharing}
-use Rattle.program_files.specs.Files.{File}
+use Rattle.program_files.specs.Files.{File, standing}
 use Rattle.program_files.specs.declared.Unread.TheVariants.{Broken, Lost}
 use Rattle.program_steps.specs.Demand.{over, refused, Followed, silent, follow_checks, follow, follow_end}
-use Rattle.program_steps.specs.Steps.{chunks, read_file}
+use Rattle.program_steps.specs.Steps.{chunks, pieces_on, read_file}
 use Rattle.program_steps.specs.Private.{Leads}
 use Rattle.simulate.specs.declared.Attempt.{Attempt}
 use Rattle.simulate.specs.declared.Failure.{Failure}
@@ -22,10 +23,15 @@ pub record ChunksRead (fields : ℕ) (list : List ℕ) (file : File) (list' : Li
   pub found : file ≡ (read_file fields list (chunks pieces)).0
   pub holds : list' ≡ (read_file fields list (chunks pieces)).1
 
+-- a file that can't be read on: the list is as the chunks before left it
+pub record ChunksBefore (fields : ℕ) (list list' : List ℕ) : Type 0 where
+  pub pieces : List (List ℕ)
+  pub holds : list' ≡ (pieces_on fields (standing 0 0 begin) list pieces).1
+
 abbrev pub FileRead : File → ℕ → List ℕ → List ℕ → Type 0
 FileRead (Ok n) fields list list' = ChunksRead fields list (Ok n) list'
 FileRead (Err (Broken place)) fields list list' = ChunksRead fields list (Err (Broken place)) list'
-FileRead (Err Lost) fields list list' = Unit {0}
+FileRead (Err Lost) fields list list' = ChunksBefore fields list list'
 
 -- the last call for the demand: a record is refused, or the demand has ended; or the lists are not those of a run, and stay as they are
 pub data LastCall (way : Sharing) (k : ℕ) (scan : Scan) (row : List ℕ) (c : Corridor) (sheet left out : List ℕ) (f : Followed) : Answer → Type 0 where
@@ -50,6 +56,12 @@ pub record Closes (a : Answer) (way : Sharing) (k : ℕ) (scan : Scan) (row : Li
   pub leaves_corridor : c' ≡ f.corridor
   pub leaves_sheet : sheet' ≡ f.sheet
   pub writes : out' ≡ sets out₁ 0 f.text
+
+-- a call that reads nothing loses nothing
+abbrev pub NothingLost : Failure → Type 0
+NothingLost (Failure.Lost k) = ⊥
+NothingLost Failure.Shut = Unit {0}
+NothingLost (Failure.Refused refusal) = Unit {0}
 
 -- how the demand goes on over these chunks: a period is being tried, or the last line is written, or it comes to no end
 abbrev pub Going : Type 0

@@ -3,12 +3,12 @@
 // written is decided by the functions of `program_files` and `program_steps`, and what one call answers is handed to the next.
 #![tactic(auto)]
 
-ghost use Rattle.std.specs.Prelude.{◌≡◌, ◌≤◌, length, [], IfErr};
+ghost use Rattle.std.specs.Prelude.{◌≡◌, ◌≤◌, length, [], Ok, IfErr};
 ghost use Rattle.text_scans.specs.Scans.{begin};
 ghost use Rattle.layout.specs.Layout.{MOST};
 ghost use Rattle.layout.specs.Corridor.{corridor_of};
 ghost use Rattle.period.specs.Sharing.{asymmetric};
-ghost use Rattle.simulate.specs.Private.{FileRead, at_end, Goes, GoesOn};
+ghost use Rattle.simulate.specs.Private.{FileRead, NothingLost, at_end, Goes, GoesOn};
 ghost use Rattle.simulate.specs.declared.Failure.{Failure};
 
 use layout::sheet::{SHEET_ROOM, sheet_length};
@@ -81,6 +81,14 @@ fn pass_on(rt: &(impl Print + Eprint + AllocGlobal), out: &[u8], at: usize) -> R
     Ok(())
 }
 
+// Passes the last lines on. The demand is over also where they cannot be written.
+fn pass_last(rt: &(impl Print + Eprint + AllocGlobal), out: &[u8], at: usize) -> Result<(), Failure>
+    ensures { result ≡ Ok tt }
+{
+    let _passed = pass_on(rt, out, at);
+    Ok(())
+}
+
 // Reads an open file of records to its end. A loop must end, so it counts as many reads as no file takes.
 fn read_all(
     rt: &(impl Eprint + AllocGlobal),
@@ -92,7 +100,7 @@ fn read_all(
     ensures { FileRead result fields list.old list.new }
 {
     let mut buffer = [0; 65_536];
-    let mut reading = program_files::start();
+    let mut reading = Ok(program_files::start());
     'reads: for _ in 0..u64::MAX {
         match file.read(&mut buffer) {
             Ok(0) => return program_files::read_end(fields, reading, list),
@@ -136,7 +144,8 @@ fn follow_chunk(
     sheet: &mut [u32],
     out: &mut [u8],
 ) -> Result<Option<Attempt>, Failure>
-    ensures { Goes result asymmetric attempt.k attempt.scan row.old (corridor_of table.now state.old) sheet.old chunk.now [] row.new (corridor_of table.now state.new) sheet.new out.new }
+    ensures loses { IfErr result NothingLost }
+    ensures goes { Goes result asymmetric attempt.k attempt.scan row.old (corridor_of table.now state.old) sheet.old chunk.now [] row.new (corridor_of table.now state.new) sheet.new out.new }
 {
     let Attempt { mut k, mut scan } = attempt;
     let mut from = 0;
@@ -154,7 +163,7 @@ fn follow_chunk(
                 scan = next;
             }
             Run::Over(at) => {
-                pass_on(rt, out, at)?;
+                pass_last(rt, out, at)?;
                 return Ok(None);
             }
         }
@@ -172,10 +181,11 @@ fn end_demand(
     sheet: &mut [u32],
     out: &mut [u8],
 ) -> Result<(), Failure>
-    ensures { Goes (at_end result) asymmetric attempt.k attempt.scan row.old (corridor_of table.now state.old) sheet.old [] [] row.new (corridor_of table.now state.new) sheet.new out.new }
+    ensures loses { IfErr result NothingLost }
+    ensures goes { Goes (at_end result) asymmetric attempt.k attempt.scan row.old (corridor_of table.now state.old) sheet.old [] [] row.new (corridor_of table.now state.new) sheet.new out.new }
 {
     match demand::end(attempt.k, attempt.scan, table, state, row, sheet, out)? {
-        Run::Over(at) => pass_on(rt, out, at),
+        Run::Over(at) => pass_last(rt, out, at),
         Run::On { .. } => Err(Failure::Shut),
     }
 }

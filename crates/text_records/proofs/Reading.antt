@@ -1,6 +1,7 @@
 -- The loops that read, byte after byte: what is left to read from here on settles what is read in all. Assumes nothing.
 use Prim.Native.Nat.{ℕ, ◌+◌, ◌≤◌, ◌<◌}
-use mathlib.Core.Path.{◌≡◌, refl, ◌∙◌}
+use mathlib.Core.Path.{◌≡◌, refl, sym, ◌∙◌}
+use mathlib.Core.Bool.{Bool, true, false}
 use mathlib.Core.List.{List, [], ◌∷◌}
 use native.Mathlib.Numerals.{add-one}
 use native.Mathlib.Omega.{arith}
@@ -8,19 +9,38 @@ use lib.ListN.{length, get_or, drop, set, length-set, drop_of_length-le}
 use lib.Seq.{sets}
 use Rattle.text_digits.proofs.Stores.{rest_of}
 use Rattle.text_digits.specs.Lines.{CR}
-use Rattle.text_scans.specs.Scans.{begin, feed, ended, completed}
+use Rattle.text_scans.specs.Scans.{begin, at_start, feed, untouched, ended, completed}
 use Rattle.text_records.specs.Reads.{broken_at, read_from, read_on, row_from, row_on, row_at_end, text_at_end, text_from, text_on, numbers_from, numbers_on, held, numbers}
 use Rattle.std.specs.Prelude.{Option, Some, None}
 use Rattle.text_scans.specs.declared.LastField.{LastField}
 use Rattle.text_scans.specs.declared.Scan.{Scan}
+use Rattle.text_scans.specs.declared.Scan.TheVariants.{Start, Number, Return}
 use Rattle.text_scans.specs.declared.Step.{Step}
 use Rattle.text_scans.specs.declared.Step.TheVariants.{More, Field, Complete, Breaks}
 use Rattle.text_scans.specs.declared.End.{End}
+use Rattle.text_scans.specs.declared.End.TheVariants.{Nothing}
 use Rattle.text_records.specs.declared.Read.TheVariants.{Record, Part, Broken}
 
 -- a step is what the byte at an index does
 abbrev pub Does : List ℕ → ℕ → Scan → ℕ → Step → Type 0
 Does bytes at scan fields step = step ≡ feed scan (get_or bytes at 0) fields
+
+true≢false : ◌≡◌ {A = Bool} true false → ⊥
+true≢false e = let z : ◌≡◌ {A = ℕ} 0 1 = cc in omega arith
+
+-- the text's end is no part of a record where none has begun
+none_begun : (scan : Scan) (fields : ℕ) → untouched scan ≡ true → ended scan fields ≡ Nothing
+unfolding ended feed at_start
+none_begun (Start field bytes) fields e = rw e
+none_begun (Number field bytes value) fields e = absurd (true≢false (sym e))
+none_begun Return fields e = absurd (true≢false (sym e))
+
+begun : (scan : Scan) (fields : ℕ) → (ended scan fields ≡ Nothing → ⊥) → untouched scan ≡ false
+begun scan fields some = by (untouched scan) refl
+  where
+    by : (b : Bool) → untouched scan ≡ b → b ≡ false
+    by true e = absurd (some (none_begun scan fields e))
+    by false e = refl
 
 -- the text's end completes a last field, which goes to its index, or to the next place of a list
 abbrev pub with_last : Option LastField → List ℕ → List ℕ
@@ -105,10 +125,12 @@ module _ {chunk : List ℕ} {from : ℕ} {scan₀ : Scan} {row₀ : List ℕ} {a
 pub record Checking (fields : ℕ) (text : List ℕ) (scan : Scan) (records i : ℕ) : Type 0 where
   pub answer : text_on fields records scan (drop i text) ≡ held fields text
   pub fewer : records ≤ i
+  pub inside : untouched scan ≡ false → records < i
+  pub reaches : i ≤ length text
 
 pub checks : (fields : ℕ) (text : List ℕ) {scan : Scan} → scan ≡ begin → Checking fields text scan 0 0
 unfolding held
-checks fields text e = rw e (record { answer = refl; fewer = omega arith })
+checks fields text e = rw e (record { answer = refl; fewer = omega arith; inside = λ (never : true ≡ false). absurd (true≢false never); reaches = omega arith })
 
 module _ {fields : ℕ} {text : List ℕ} {scan : Scan} {records i : ℕ} where
   check_byte : Checking fields text scan records i → i < length text → (step : Step) → Does text i scan fields step
@@ -120,12 +142,12 @@ module _ {fields : ℕ} {text : List ℕ} {scan : Scan} {records i : ℕ} where
       → Checking fields text next records (i + 1)
   unfolding text_from
   check_more here h e =
-      record { answer = check_byte here h _ e; fewer = omega (arith, here.fewer) }
+      record { answer = check_byte here h _ e; fewer = omega (arith, here.fewer); inside = λ _. omega (arith, here.fewer); reaches = omega arith }
 
   pub check_field : {next : Scan} {field number : ℕ} → Checking fields text scan records i → i < length text → Does text i scan fields (Field field number next) → Checking fields text next records (i + 1)
   unfolding text_from
   check_field here h e =
-      record { answer = check_byte here h _ e; fewer = omega (arith, here.fewer) }
+      record { answer = check_byte here h _ e; fewer = omega (arith, here.fewer); inside = λ _. omega (arith, here.fewer); reaches = omega arith }
 
   pub check_record : {first : Scan} → Checking fields text scan records i → i < length text → Does text i scan fields Complete → first ≡ begin
       → Checking fields text first (records + 1) (i + 1)
@@ -135,6 +157,8 @@ module _ {fields : ℕ} {text : List ℕ} {scan : Scan} {records i : ℕ} where
       (record {
         answer = check_byte here h _ e;
         fewer = omega (arith, here.fewer);
+        inside = λ (never : true ≡ false). absurd (true≢false never);
+        reaches = omega arith;
       })
 
   pub check_breaks : Checking fields text scan records i → i < length text → Does text i scan fields Breaks
@@ -147,6 +171,10 @@ module _ {fields : ℕ} {text : List ℕ} {scan : Scan} {records i : ℕ} where
   check_ends here h e =
       let none : drop i text ≡ [] = drop_of_length-le text h in
       rw e (rw none at here.answer)
+
+  -- a record that the text's end completes or breaks has a byte of its own, so its number is at most the text's length
+  pub check_last : {end : End} → Checking fields text scan records i → end ≡ ended scan fields → (end ≡ Nothing → ⊥) → records < length text
+  check_last here e some = omega (arith, here.inside (begun scan fields λ none. some (e ∙ none)), here.reaches)
 
 -- A whole text, stored: with the numbers before this place in the list already.
 

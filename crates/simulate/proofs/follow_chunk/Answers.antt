@@ -9,7 +9,8 @@ use Rattle.simulate.proofs.follow_chunk.Goals as goal
 pub returns-in_err-read : goal.returns-in_err-read
 returns-in_err-read g c =
     let p = err_from_is_err_and c.from_residual.result c.from_residual.ensures.1 in
-    rw (p.1, p.2) (call_closes _ _ _ _ _ _ _ c.loop-from.invariant.0 _ _ (part_to_end c.args.chunk.now c.loop-from.from) c.follow.ensures c.in_err-read.was)
+    let closes = call_closes _ _ _ _ _ _ _ c.loop-from.invariant.0 _ _ (part_to_end c.args.chunk.now c.loop-from.from) c.follow.ensures c.in_err-read.was in
+    rw (p.1, p.2) (record { loses = tt; goes = closes })
 
 pub overflow_add-from : goal.overflow_add-from
 overflow_add-from g c =
@@ -26,4 +27,6 @@ loop-from-preserved g c =
     (call_leads _ _ _ _ _ _ _ _ c.loop-from.invariant.0 _ _ (part_to_end c.args.chunk.now c.loop-from.from) c.follow.ensures (c.in_ok-read.was ∙ ap Ok c.in-On.is), omega arith, omega arith, omega arith, omega arith)
 
 pub returns-in-Over : goal.returns-in-Over
-returns-in-Over g c = call_closes _ _ _ _ _ _ _ c.loop-from.invariant.0 _ _ (part_to_end c.args.chunk.now c.loop-from.from) c.follow.ensures (c.in_ok-read.was ∙ ap Ok c.in-Over.is)
+returns-in-Over g c =
+    let closes = call_closes _ _ _ _ _ _ _ c.loop-from.invariant.0 _ _ (part_to_end c.args.chunk.now c.loop-from.from) c.follow.ensures (c.in_ok-read.was ∙ ap Ok c.in-Over.is) in
+    record { loses = tt; goes = closes }

@@ -6,7 +6,7 @@ use lib.Ieee.Digits.{size-le}
 use lib.Ieee.Fits.{kept-lt, down_pos}
 use lib.Ieee.Positive as positive
 use Rattle.calibrate_rows.specs.RowNumbers.{numerator, denominator, value_fits}
-use Rattle.calibrate_rows.proofs.Rounding.{InLimits, in_limits}
+use Rattle.calibrate_rows.proofs.Rounding.{in_limits}
 
 field_most : (k q : ℕ) → k ≤ 1074 → q < 9007199254740992 → (0 + k * 4503599627370496 + q) / 4503599627370496 ≤ 1075
 field_most k q h l = omega arith
