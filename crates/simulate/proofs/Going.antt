@@ -115,6 +115,10 @@ module _ {way : Sharing} {k : ℕ} {scan : Scan} {row : List ℕ} {c : Corridor}
         writes = closes.writes;
       }
 
+  -- a read that fails
+  pub read_fails : {out' : List ℕ} → GoesOn (Err (Lost k)) way k scan row c sheet row c sheet out'
+  read_fails = record { pieces = []; goes = (scan, leads_here way k scan row c sheet []) }
+
   -- a chunk that a read brings
   pub chunk_goes : {row' : List ℕ} {c' : Corridor} {sheet' out' : List ℕ} (next : Going) (chunk : List ℕ) → Goes next way k scan row c sheet chunk [] row' c' sheet' out' → GoesOn next way k scan row c sheet row' c' sheet' out'
   chunk_goes (Ok (Some now)) chunk goes = record { pieces = chunk ∷ []; goes = next_chunk_leads way k scan row c sheet chunk goes }

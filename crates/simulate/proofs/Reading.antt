@@ -9,9 +9,10 @@ use Rattle.text_scans.specs.Scans.{begin, untouched, feed}
 use Rattle.text_scans.specs.declared.Step.{Step}
 use Rattle.text_scans.specs.declared.Step.TheVariants.{More, Field, Complete, Breaks}
 use Rattle.program_files.specs.Files.{File, Standing, standing, file_on, file_end, end_of}
+use Rattle.program_files.specs.declared.Unread.{Unread}
 use Rattle.program_files.specs.declared.Unread.TheVariants.{Broken, Lost}
 use Rattle.program_steps.specs.Steps.{pieces_on, read_file}
-use Rattle.simulate.specs.Private.{ChunksRead, ChunksBefore, FileRead}
+use Rattle.simulate.specs.Private.{SomeRead, ChunksRead, ChunksBefore, FileRead}
 
 module _ (fields : ℕ) where
   piece_after : (so : Standing) (list : List ℕ) (pieces : List (List ℕ)) (chunk : List ℕ)
@@ -51,9 +52,17 @@ module _ (fields : ℕ) where
           holds = rw (piece_after (standing 0 0 begin) list₀ at.pieces chunk, sym at.stands, sym at.holds) holds;
         }
 
+    -- a read that brings nothing
+    pub none_more : {list' : List ℕ} → list' ≡ list → Stands list₀ so list'
+    none_more same = record { pieces = at.pieces; stands = at.stands; holds = same ∙ at.holds }
+
     -- a read that fails
     pub lost : FileRead (Err Lost) fields list₀ list
     lost = record { pieces = at.pieces; holds = at.holds }
+
+    pub read_fails : (list' : List ℕ) (unread : Unread) → SomeRead (Err unread) fields so list list' → FileRead (Err unread) fields list₀ list'
+    read_fails list' (Broken place) never = absurd never
+    read_fails list' Lost same = record { pieces = at.pieces; holds = same ∙ at.holds }
 
     pub read_to_its_end : {list' : List ℕ} (file : File) → file ≡ (file_end fields so list).0 → list' ≡ (file_end fields so list).1 → FileRead file fields list₀ list'
     unfolding read_file

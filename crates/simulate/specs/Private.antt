@@ -9,13 +9,26 @@ use Rattle.layout.specs.Corridor.{Corridor}
 use Rattle.text_scans.specs.Scans.{begin}
 use Rattle.text_scans.specs.declared.Scan.{Scan}
 use Rattle.period.specs.Sharing.{Sharing}
-use Rattle.program_files.specs.Files.{File, standing}
+use Rattle.program_files.specs.Files.{File, Standing, standing, file_on}
+use Rattle.program_files.specs.declared.Unread.{Unread}
 use Rattle.program_files.specs.declared.Unread.TheVariants.{Broken, Lost}
 use Rattle.program_steps.specs.Demand.{over, refused, Followed, silent, follow_checks, follow, follow_end}
 use Rattle.program_steps.specs.Steps.{chunks, pieces_on, read_file}
 use Rattle.program_steps.specs.Private.{Leads}
 use Rattle.simulate.specs.declared.Attempt.{Attempt}
 use Rattle.simulate.specs.declared.Failure.{Failure}
+
+-- one read of a file of records: a chunk more, or nothing, and the list as it came
+pub record ChunkRead (fields : ℕ) (so : Standing) (list : List ℕ) (so' : Standing) (list' : List ℕ) : Type 0 where
+  pub chunk : List ℕ
+  pub stands : so' ≡ (file_on fields so list chunk).0
+  pub holds : list' ≡ (file_on fields so list chunk).1
+
+abbrev pub SomeRead : Result (Option Standing) Unread → ℕ → Standing → List ℕ → List ℕ → Type 0
+SomeRead (Ok (Some so')) fields so list list' = ChunkRead fields so list so' list'
+SomeRead (Ok None) fields so list list' = list' ≡ list
+SomeRead (Err (Broken place)) fields so list list' = ⊥
+SomeRead (Err Lost) fields so list list' = list' ≡ list
 
 -- a file of records, read to its end in chunks
 pub record ChunksRead (fields : ℕ) (list : List ℕ) (file : File) (list' : List ℕ) : Type 0 where
@@ -62,6 +75,12 @@ abbrev pub NothingLost : Failure → Type 0
 NothingLost (Failure.Lost k) = ⊥
 NothingLost Failure.Shut = Unit {0}
 NothingLost (Failure.Refused refusal) = Unit {0}
+
+-- a read that fails is lost in the period that was tried, and changes nothing
+abbrev pub LostAsItCame : Failure → ℕ → Type 0 → Type 0
+LostAsItCame (Failure.Lost k') k came = (k' ≡ k) × came
+LostAsItCame Failure.Shut k came = Unit {0}
+LostAsItCame (Failure.Refused refusal) k came = Unit {0}
 
 -- how the demand goes on over these chunks: a period is being tried, or the last line is written, or it comes to no end
 abbrev pub Going : Type 0

@@ -8,14 +8,14 @@ ghost use Rattle.text_scans.specs.Scans.{begin};
 ghost use Rattle.layout.specs.Layout.{MOST};
 ghost use Rattle.layout.specs.Corridor.{corridor_of};
 ghost use Rattle.period.specs.Sharing.{asymmetric};
-ghost use Rattle.simulate.specs.Private.{FileRead, NothingLost, at_end, Goes, GoesOn};
+ghost use Rattle.simulate.specs.Private.{SomeRead, FileRead, NothingLost, LostAsItCame, at_end, Goes, GoesOn};
 ghost use Rattle.simulate.specs.declared.Failure.{Failure};
 
 use layout::sheet::{SHEET_ROOM, sheet_length};
 use layout::{
     DEMAND_ROOM, STATE_ROOM, TABLE_ROOM, demand_length, space, state_length, table_length, width,
 };
-use program_files::{Stop, Unread};
+use program_files::{Reading, Stop, Unread};
 use program_steps::{Run, demand, lines};
 use refusals::Refusal;
 use std::fs::File;
@@ -89,6 +89,28 @@ fn pass_last(rt: &(impl Print + Eprint + AllocGlobal), out: &[u8], at: usize) ->
     Ok(())
 }
 
+// One read of a file of records into a list, through a buffer. It answers how the reading goes on, or nothing where the file has ended.
+fn read_some(
+    rt: &(impl Eprint + AllocGlobal),
+    file: &mut impl Read,
+    name: &str,
+    fields: usize,
+    reading: Result<Reading, Unread>,
+    buffer: &mut [u8],
+    list: &mut [u32],
+) -> Result<Option<Result<Reading, Unread>>, Unread>
+    ensures { SomeRead result fields reading list.old list.new }
+{
+    match file.read(buffer) {
+        Ok(0) => Ok(None),
+        Ok(n) => Ok(Some(program_files::read_on(&buffer[..n], fields, reading, list))),
+        Err(failed) => {
+            fail(rt, name, failed);
+            Err(Unread::Lost)
+        }
+    }
+}
+
 // Reads an open file of records to its end. A loop must end, so it counts as many reads as no file takes.
 fn read_all(
     rt: &(impl Eprint + AllocGlobal),
@@ -102,13 +124,9 @@ fn read_all(
     let mut buffer = [0; 65_536];
     let mut reading = Ok(program_files::start());
     'reads: for _ in 0..u64::MAX {
-        match file.read(&mut buffer) {
-            Ok(0) => return program_files::read_end(fields, reading, list),
-            Ok(n) => reading = program_files::read_on(&buffer[..n], fields, reading, list),
-            Err(error) => {
-                fail(rt, name, error);
-                return Err(Unread::Lost);
-            }
+        match read_some(rt, file, name, fields, reading, &mut buffer, list)? {
+            Some(next) => reading = next,
+            None => return program_files::read_end(fields, reading, list),
         }
     }
     Err(Unread::Lost)
@@ -190,6 +208,34 @@ fn end_demand(
     }
 }
 
+// One read of the demand, through a buffer.
+fn follow_some(
+    rt: &(impl Print + Eprint + AllocGlobal),
+    file: &mut impl Read,
+    attempt: Attempt,
+    table: &[u32],
+    state: &mut [u32],
+    row: &mut [u32],
+    sheet: &mut [u32],
+    buffer: &mut [u8],
+    out: &mut [u8],
+) -> Result<Option<Attempt>, Failure>
+    ensures loses { IfErr result (λ failure. LostAsItCame failure attempt.k ((row.new ≡ row.old) × (state.new ≡ state.old) × (sheet.new ≡ sheet.old))) }
+    ensures goes { GoesOn result asymmetric attempt.k attempt.scan row.old (corridor_of table.now state.old) sheet.old row.new (corridor_of table.now state.new) sheet.new out.new }
+{
+    match file.read(buffer) {
+        Ok(0) => {
+            end_demand(rt, attempt, table, state, row, sheet, out)?;
+            Ok(None)
+        }
+        Ok(n) => follow_chunk(rt, &buffer[..n], attempt, table, state, row, sheet, out),
+        Err(error) => {
+            fail(rt, "demand.csv", error);
+            Err(Failure::Lost(attempt.k))
+        }
+    }
+}
+
 // Reads the open demand, a period for each record, until it has ended or can't be read on.
 fn run_demand(
     rt: &(impl Print + Eprint + AllocGlobal),
@@ -208,18 +254,19 @@ fn run_demand(
         scan: text_scans::begin(),
     };
     'reads: for _ in 0..u64::MAX {
-        match file.read(&mut buffer) {
-            Ok(0) => return end_demand(rt, attempt, table, state, row, sheet, out),
-            Ok(n) => {
-                match follow_chunk(rt, &buffer[..n], attempt, table, state, row, sheet, out)? {
-                    Some(next) => attempt = next,
-                    None => return Ok(()),
-                }
-            }
-            Err(error) => {
-                fail(rt, "demand.csv", error);
-                return Err(Failure::Lost(attempt.k));
-            }
+        match follow_some(
+            rt,
+            file,
+            attempt,
+            table,
+            state,
+            row,
+            sheet,
+            &mut buffer,
+            out,
+        )? {
+            Some(next) => attempt = next,
+            None => return Ok(()),
         }
     }
     Err(Failure::Lost(attempt.k))
