@@ -36,7 +36,7 @@ pub record ChunksRead (fields : ℕ) (list : List ℕ) (file : File) (list' : Li
   pub found : file ≡ (read_file fields list (chunks pieces)).0
   pub holds : list' ≡ (read_file fields list (chunks pieces)).1
 
--- a file that can't be read on: the list is as the chunks before left it
+-- a file that can't be read on: the list is as some chunks left it
 pub record ChunksBefore (fields : ℕ) (list list' : List ℕ) : Type 0 where
   pub pieces : List (List ℕ)
   pub holds : list' ≡ (pieces_on fields (standing 0 0 begin) list pieces).1

@@ -209,6 +209,7 @@ fn end_demand(
 }
 
 // One read of the demand, through a buffer.
+#[tactic(auto, using(crate::proofs::Going::read_fails))]
 fn follow_some(
     rt: &(impl Print + Eprint + AllocGlobal),
     file: &mut impl Read,

@@ -1,8 +1,5 @@
-use Rattle.simulate.proofs.Going.{chunk_goes, read_fails}
+use Rattle.simulate.proofs.Going.{chunk_goes}
 use Rattle.simulate.proofs.follow_some.Goals as goal
 
 pub returns-in-Ok-clause-goes : goal.returns-in-Ok-clause-goes
 returns-in-Ok-clause-goes g c = chunk_goes c.follow_chunk.result _ c.follow_chunk.ensures.goes
-
-pub returns-in-Err-clause-goes : goal.returns-in-Err-clause-goes
-returns-in-Err-clause-goes g c = read_fails
