@@ -44,7 +44,9 @@ fn ramp_again(marks: &mut [u64; 1_024], ramp: usize) -> bool
     (word >> (ramp % 64)) % 2 == 1
 }
 
-// Number 4: a mark that is up says that its ramp number stands at a position already passed.
+// Number 4: a mark that is up says that its ramp number stands at a position already passed. Two tables, one after the other, take the room of
+// the marks once, since it is this function's own when compiled.
+#[inline(never)]
 pub(crate) fn ramps_once(table: &[u32]) -> Result<(), Refusal>
     requires { (k : ℕ) → k < ramp_positions (cells table.now) → ramp_at table.now k < 65_536 }
     ensures { result ≡ answer (ramps_once table.now ∷ []) }
