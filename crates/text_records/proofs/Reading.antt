@@ -125,12 +125,10 @@ module _ {chunk : List ℕ} {from : ℕ} {scan₀ : Scan} {row₀ : List ℕ} {a
 pub record Checking (fields : ℕ) (text : List ℕ) (scan : Scan) (records i : ℕ) : Type 0 where
   pub answer : text_on fields records scan (drop i text) ≡ held fields text
   pub fewer : records ≤ i
-  pub inside : untouched scan ≡ false → records < i
-  pub reaches : i ≤ length text
 
 pub checks : (fields : ℕ) (text : List ℕ) {scan : Scan} → scan ≡ begin → Checking fields text scan 0 0
 unfolding held
-checks fields text e = rw e (record { answer = refl; fewer = omega arith; inside = λ (never : true ≡ false). absurd (true≢false never); reaches = omega arith })
+checks fields text e = rw e (record { answer = refl; fewer = omega arith })
 
 module _ {fields : ℕ} {text : List ℕ} {scan : Scan} {records i : ℕ} where
   check_byte : Checking fields text scan records i → i < length text → (step : Step) → Does text i scan fields step
@@ -142,12 +140,12 @@ module _ {fields : ℕ} {text : List ℕ} {scan : Scan} {records i : ℕ} where
       → Checking fields text next records (i + 1)
   unfolding text_from
   check_more here h e =
-      record { answer = check_byte here h _ e; fewer = omega (arith, here.fewer); inside = λ _. omega (arith, here.fewer); reaches = omega arith }
+      record { answer = check_byte here h _ e; fewer = omega (arith, here.fewer) }
 
   pub check_field : {next : Scan} {field number : ℕ} → Checking fields text scan records i → i < length text → Does text i scan fields (Field field number next) → Checking fields text next records (i + 1)
   unfolding text_from
   check_field here h e =
-      record { answer = check_byte here h _ e; fewer = omega (arith, here.fewer); inside = λ _. omega (arith, here.fewer); reaches = omega arith }
+      record { answer = check_byte here h _ e; fewer = omega (arith, here.fewer) }
 
   pub check_record : {first : Scan} → Checking fields text scan records i → i < length text → Does text i scan fields Complete → first ≡ begin
       → Checking fields text first (records + 1) (i + 1)
@@ -157,8 +155,6 @@ module _ {fields : ℕ} {text : List ℕ} {scan : Scan} {records i : ℕ} where
       (record {
         answer = check_byte here h _ e;
         fewer = omega (arith, here.fewer);
-        inside = λ (never : true ≡ false). absurd (true≢false never);
-        reaches = omega arith;
       })
 
   pub check_breaks : Checking fields text scan records i → i < length text → Does text i scan fields Breaks
@@ -172,9 +168,21 @@ module _ {fields : ℕ} {text : List ℕ} {scan : Scan} {records i : ℕ} where
       let none : drop i text ≡ [] = drop_of_length-le text h in
       rw e (rw none at here.answer)
 
-  -- a record that the text's end completes or breaks has a byte of its own, so its number is at most the text's length
-  pub check_last : {end : End} → Checking fields text scan records i → end ≡ ended scan fields → (end ≡ Nothing → ⊥) → records < length text
-  check_last here e some = omega (arith, here.inside (begun scan fields λ none. some (e ∙ none)), here.reaches)
+-- How far the check has come, for `check_last`: the index is within the text, and a record that has begun has a byte before it.
+
+pub record Reaching (text : List ℕ) (scan : Scan) (records i : ℕ) : Type 0 where
+  pub inside : untouched scan ≡ false → records < i
+  pub reaches : i ≤ length text
+
+pub reach_start : {text : List ℕ} {scan : Scan} {records i : ℕ} → scan ≡ begin → i ≤ length text → Reaching text scan records i
+reach_start e h = rw e (record { inside = λ (never : true ≡ false). absurd (true≢false never); reaches = h })
+
+pub reach_more : {text : List ℕ} {next : Scan} {records i : ℕ} → records ≤ i → i < length text → Reaching text next records (i + 1)
+reach_more fewer h = record { inside = λ _. omega (arith, fewer); reaches = omega arith }
+
+-- a record that the text's end completes or breaks has a byte of its own, so its number is at most the text's length
+pub check_last : (fields : ℕ) {text : List ℕ} {scan : Scan} {records i : ℕ} {end : End} → Reaching text scan records i → end ≡ ended scan fields → (end ≡ Nothing → ⊥) → records < length text
+check_last fields {scan = scan} here e some = omega (arith, here.inside (begun scan fields λ none. some (e ∙ none)), here.reaches)
 
 -- A whole text, stored: with the numbers before this place in the list already.
 
